@@ -1,0 +1,10 @@
+pub mod CoverLaws
+pub mod Header
+pub mod HeaderLaws
+pub mod Intervals
+pub mod Limits
+pub mod LimitsLaws
+pub mod Map
+pub mod MapLaws
+pub mod SetUp
+pub mod SetUpLaws

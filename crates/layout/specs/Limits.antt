@@ -1,0 +1,36 @@
+-- Limits, and how many words of each buffer a heap needs.
+use Prim.Native.Nat.{ℕ, _+_, _-_, _*_, _/_}
+use mathlib.Core.Bool.{Bool, cond, _&&_}
+use lib.Dec.{leb}
+
+-- The most words that a heap has.
+abbrev pub maxWords : ℕ
+maxWords = 65536
+
+-- The greatest keep length.
+abbrev pub maxKeep : ℕ
+maxKeep = 65535
+
+-- A heap of h words and a keep length of t are within the limits.
+unfoldable pub within : ℕ → ℕ → Bool
+within h t = leb 1 h && leb h maxWords && leb 1 t && leb t maxKeep
+
+-- The map needs a bit for each word.
+unfoldable pub mapWords : ℕ → ℕ
+mapWords h = (h + 31) / 32
+
+-- The stack needs a word for each object that the heap can hold.
+unfoldable pub stackWords : ℕ → ℕ → ℕ
+stackWords h t = (h - 1) / t
+
+-- The list has room for as many intervals as the heap can hold.
+unfoldable pub listRoom : ℕ → ℕ → ℕ
+listRoom h t = (h - 1) / t
+
+-- The list needs two words for each interval that it has room for.
+unfoldable pub listWords : ℕ → ℕ → ℕ
+listWords h t = 2 * listRoom h t
+
+-- A room figure as firmware asks for it: the words needed, or 0 out of the limits.
+unfoldable pub figure : ℕ → ℕ → ℕ → ℕ
+figure h t needed = cond (within h t) needed 0
