@@ -6,5 +6,6 @@ pub mod Limits
 pub mod LimitsLaws
 pub mod Map
 pub mod MapLaws
+pub mod Refusal
 pub mod SetUp
 pub mod SetUpLaws

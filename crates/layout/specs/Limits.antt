@@ -15,19 +15,19 @@ maxKeep = 65535
 unfoldable pub within : ℕ → ℕ → Bool
 within h t = leb 1 h && leb h maxWords && leb 1 t && leb t maxKeep
 
--- The map needs a bit for each word.
+-- The map needs a bit for each word, in words of 32 bits.
 unfoldable pub mapWords : ℕ → ℕ
 mapWords h = (h + 31) / 32
 
--- The stack needs a word for each object that the heap can hold.
+-- The stack needs a word for each object that can stand in words 1 to h-1, none shorter than t.
 unfoldable pub stackWords : ℕ → ℕ → ℕ
 stackWords h t = (h - 1) / t
 
--- The list has room for as many intervals as the heap can hold.
+-- The list has room for as many intervals.
 unfoldable pub listRoom : ℕ → ℕ → ℕ
-listRoom h t = (h - 1) / t
+listRoom h t = stackWords h t
 
--- The list needs two words for each interval that it has room for.
+-- The list needs two words for each interval.
 unfoldable pub listWords : ℕ → ℕ → ℕ
 listWords h t = 2 * listRoom h t
 

@@ -38,6 +38,15 @@ pub figure-out : (h t n : ℕ) → within h t ≡ false → figure h t n ≡ 0
 unfolding figure
 figure-out h t n e = rw e
 
+-- The list's figure is twice the stack's.
+pub figure-double : (h t : ℕ) → 2 * figure h t (stackWords h t) ≡ figure h t (listWords h t)
+unfolding figure listWords listRoom
+figure-double h t = go (within h t)
+  where
+    go : (ok : Bool) → 2 * cond ok (stackWords h t) 0 ≡ cond ok (2 * stackWords h t) 0
+    go true = refl
+    go false = refl
+
 -- A figure keeps to a bound that holds within the limits.
 figure-below : (h t n b : ℕ) → 0 < b → (Limits h t → n < b) → figure h t n < b
 unfolding figure
@@ -57,7 +66,7 @@ unfolding stackWords
 stack-figure-fits h t = figure-below h t _ _ (lit< tt) (λ l. omega (arith, div-le-self (h - 1) t))
 
 pub list-figure-fits : (h t : ℕ) → figure h t (listWords h t) < 2 ^ 32
-unfolding listWords listRoom
+unfolding listWords listRoom stackWords
 list-figure-fits h t = figure-below h t _ _ (lit< tt) (λ l. omega (arith, div-le-self (h - 1) t))
 
 -- The map figure is 0 only out of the limits.

@@ -1,11 +1,12 @@
 -- Set-up, as one function from what it is lent to what it leaves.
 use Prim.Native.Nat.{ℕ, _-_}
-use mathlib.Core.Bool.{Bool, cond, _&&_}
+use mathlib.Core.Bool.{cond, _&&_}
 use mathlib.Core.List.{List, [], _∷_, _++_}
 use lib.ListN.{length, drop, replicate}
 use lib.Dec.{leb}
 use Rattle.layout.specs.Limits.{within, mapWords, listWords}
 use Rattle.layout.specs.Intervals.{Interval, shown}
+use Rattle.layout.specs.Refusal.{unless}
 use Rattle.layout.specs.declared.State.{State}
 use Rattle.layout.specs.declared.SetUp.{SetUp}
 
@@ -15,9 +16,9 @@ pub record Prepared : Type 0 where
   pub map : List ℕ
   pub list : List ℕ
 
--- A refusal unless the test holds, else what comes next.
-abbrev pub unless {ℓ} : {A : Type ℓ} → Bool → A → A → A
-unless test refusal next = cond test next refusal
+-- The answer and the buffers, put together.
+abbrev pub prepared : SetUp → List ℕ → List ℕ → Prepared
+prepared answer map list = record { answer = answer; map = map; list = list }
 
 -- The list of a heap with no object: all words but word 0, where they have the keep length.
 unfoldable pub firstList : ℕ → ℕ → List Interval
@@ -31,7 +32,7 @@ setUpRefused n = record { code = n; state = record { words = 0; keep = 0; count 
 unfoldable pub setsUp : List ℕ → ℕ → List ℕ → List ℕ → Prepared
 setsUp heap t map list =
     let h : ℕ = length heap in
-    let refuse : ℕ → Prepared = λ n. record { answer = setUpRefused n; map = map; list = list } in
+    let refuse : ℕ → Prepared = λ n. prepared (setUpRefused n) map list in
     unless (within h t) (refuse 1)
     (unless (leb (mapWords h) (length map) && leb (listWords h t) (length list)) (refuse 2)
     (record {
@@ -39,7 +40,3 @@ setsUp heap t map list =
       map = replicate (mapWords h) 0 ++ drop (mapWords h) map;
       list = shown (listWords h t) (firstList h t) ++ drop (listWords h t) list;
     }))
-
--- The parts together.
-abbrev pub prepared : SetUp → List ℕ → List ℕ → Prepared
-prepared answer map list = record { answer = answer; map = map; list = list }

@@ -9,7 +9,7 @@ use lib.ListN.{length, set, take, drop, replicate}
 use lib.Seq.{length-take-le}
 use borrow.Author.Tests.{le-leb, lt-leb}
 use Rattle.layout.specs.Intervals.{flat, shown}
-use Rattle.layout.specs.Limits.{within, mapWords, listRoom, listWords, figure}
+use Rattle.layout.specs.Limits.{within, mapWords, stackWords, listRoom, listWords, figure}
 use Rattle.layout.specs.LimitsLaws.{figure-in}
 use Rattle.layout.specs.SetUp.{prepared, firstList, setUpRefused, setsUp}
 
@@ -31,7 +31,7 @@ module _ (h t : ℕ) (keeps : 1 ≤ t) (l : t ≤ h - 1) where
 
   -- It has room for that.
   pub one-fits : 2 ≤ listWords h t
-  unfolding listWords listRoom
+  unfolding listWords listRoom stackWords
   one-fits = omega (arith, le-div-iff-mul-le {k = t} {x = 1} {y = h - 1} keeps .1 (omega arith))
 
   -- Start and size stored over zeros show the list of one interval.

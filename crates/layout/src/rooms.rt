@@ -29,9 +29,5 @@ pub fn stack_words(words: usize, keep: usize) -> usize
 pub fn list_words(words: usize, keep: usize) -> usize
     ensures { λ r. ⌜ r ≡ figure words keep (listWords words keep) ⌝ }
 {
-    if State::allows(words, keep) {
-        2 * ((words - 1) / keep)
-    } else {
-        0
-    }
+    2 * stack_words(words, keep)
 }

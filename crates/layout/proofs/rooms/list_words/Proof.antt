@@ -1,35 +1,19 @@
--- `list_words`: within the limits twice a quotient of the heap's words is small.
-use Prim.Native.Nat.{_-_}
-use mathlib.Core.Path.{sym, _∙_}
+-- `list_words`: twice a small number is small.
+use mathlib.Core.Path.{ap, _∙_}
 use native.Mathlib.Omega.{arith}
-use native.Mathlib.Nat.{div-le-self}
 use borrow.Author.Needs.{needs}
-use Rattle.layout.specs.Limits.{listRoom, listWords}
-use Rattle.layout.specs.LimitsLaws.{Limits, limits, figure-in, figure-out}
+use Rattle.layout.specs.LimitsLaws.{stack-figure-fits, figure-double}
 use Rattle.layout.proofs.rooms.list_words.Statement.{statement}
 use Rattle.layout.proofs.rooms.list_words.Tie as tie
 
-allows-requires : tie.Need-allows-requires
-allows-requires c κs = search needs
-
-inside : (c : tie.Then1) → Limits (c .before .before .args .words) (c .before .before .args .keep)
-inside c = limits _ _ (sym (c .before .allows .ensures) ∙ c .if1 .taken)
-
-sub-result : tie.Need-sub-result
-sub-result c = inside c .some
-
-div-result : tie.Need-div-result
-div-result c = inside c .keeps
+stack-words-requires : tie.Need-stack-words-requires
+stack-words-requires c κs = search needs
 
 mul-result : tie.Need-mul-result
-mul-result c = omega (arith, inside c, div-le-self (c .before .before .args .words - 1) (c .before .before .args .keep))
+mul-result c = omega (arith, stack-figure-fits (c .before .args .words) (c .before .args .keep))
 
 returns : tie.Need-returns
-unfolding listRoom listWords
-returns c = sym (figure-in _ _ _ (sym (c .before .allows .ensures) ∙ c .if1 .taken))
-
-returns-2 : tie.Need-returns-2
-returns-2 c = sym (figure-out _ _ _ (sym (c .before .allows .ensures) ∙ c .if1 .left))
+returns c = rw (c .stack-words .ensures) (figure-double (c .before .args .words) (c .before .args .keep))
 
 pub list-words-spec : {M : Type 1} → statement M
-list-words-spec = tie.close (tie.spec allows-requires sub-result div-result mul-result returns returns-2)
+list-words-spec = tie.close (tie.spec stack-words-requires mul-result returns)
