@@ -1,7 +1,9 @@
 -- Limits, and how many words of each buffer a heap needs.
 use Prim.Native.Nat.{ℕ, _+_, _-_, _*_, _/_}
-use mathlib.Core.Bool.{Bool, cond, _&&_}
+use mathlib.Core.Bool.{Bool, _&&_}
 use lib.Dec.{leb}
+use Rattle.layout.specs.Refusal.{unless}
+use Rattle.layout.specs.declared.Rooms.{Rooms}
 
 -- The most words that a heap has.
 abbrev pub maxWords : ℕ
@@ -31,6 +33,8 @@ listRoom h t = stackWords h t
 unfoldable pub listWords : ℕ → ℕ → ℕ
 listWords h t = 2 * listRoom h t
 
--- A room figure as firmware asks for it: the words needed, or 0 out of the limits.
-unfoldable pub figure : ℕ → ℕ → ℕ → ℕ
-figure h t needed = cond (within h t) needed 0
+-- The room figures: the words needed of map, stack and list, or 0 for each out of the limits.
+unfoldable pub roomsOf : ℕ → ℕ → Rooms
+roomsOf h t =
+    unless (within h t) (record { map = 0; stack = 0; list = 0 })
+    (record { map = mapWords h; stack = stackWords h t; list = listWords h t })

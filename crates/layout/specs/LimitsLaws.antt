@@ -1,12 +1,15 @@
 -- Laws of the limits and of the room figures.
-use Prim.Native.Nat.{ℕ, _+_, _-_, _*_, _/_, _^_, _≤_, _<_}
+use Prim.Native.Nat.{ℕ, _+_, _-_, _*_, _/_, _≤_, _<_}
 use mathlib.Core.Path.{_≡_, refl}
-use mathlib.Core.Bool.{Bool, true, false, cond, _&&_, and-eq-true-iff}
+use mathlib.Core.Logic.{_≢_}
+use mathlib.Core.Bool.{Bool, true, false, _&&_, and-eq-true-iff}
+use mathlib.Mathlib.Data.Bool.Basic.{eq-true-of-not-eq-false}
 use native.Mathlib.Nat.{div-le-self}
 use native.Mathlib.Omega.{arith}
-use lib.Dec.{leb, lit<}
+use lib.Dec.{leb}
 use borrow.Author.Tests.{leb-true}
-use Rattle.layout.specs.Limits.{maxWords, maxKeep, within, mapWords, stackWords, listRoom, listWords, figure}
+use Rattle.layout.specs.Limits.{maxWords, maxKeep, within, mapWords, stackWords, listRoom, listWords, roomsOf}
+use Rattle.layout.specs.declared.Rooms.{Rooms}
 
 -- What the limits say of a heap of h words and a keep length of t.
 pub record Limits (h t : ℕ) : Type 0 where
@@ -28,55 +31,46 @@ limits h t e =
     let z = both (y .0) in
     record { some = leb-true 1 h (z .0); words = leb-true h maxWords (z .1); keeps = leb-true 1 t (y .1); keep = leb-true t maxKeep (x .1) }
 
--- Within the limits a figure is what is needed.
-pub figure-in : (h t n : ℕ) → within h t ≡ true → figure h t n ≡ n
-unfolding figure
-figure-in h t n e = rw e
+-- Within the limits the figures are what is needed.
+pub rooms-in : (h t : ℕ) → within h t ≡ true → roomsOf h t ≡ record { map = mapWords h; stack = stackWords h t; list = listWords h t }
+unfolding roomsOf
+rooms-in h t e = rw e
 
--- Out of the limits a figure is 0.
-pub figure-out : (h t n : ℕ) → within h t ≡ false → figure h t n ≡ 0
-unfolding figure
-figure-out h t n e = rw e
+-- Out of the limits they are 0.
+pub rooms-out : (h t : ℕ) → within h t ≡ false → roomsOf h t ≡ record { map = 0; stack = 0; list = 0 }
+unfolding roomsOf
+rooms-out h t e = rw e
 
--- The list's figure is twice the stack's.
-pub figure-double : (h t : ℕ) → 2 * figure h t (stackWords h t) ≡ figure h t (listWords h t)
-unfolding figure listWords listRoom
-figure-double h t = go (within h t)
+-- A figure is at most twice the most words of a heap.
+pub rooms-small : (h t : ℕ) → (roomsOf h t .map ≤ maxWords) × (roomsOf h t .stack ≤ maxWords) × (roomsOf h t .list ≤ 2 * maxWords)
+unfolding roomsOf mapWords stackWords listWords listRoom
+rooms-small h t = go (within h t) refl
   where
-    go : (ok : Bool) → 2 * cond ok (stackWords h t) 0 ≡ cond ok (2 * stackWords h t) 0
-    go true = refl
-    go false = refl
+    go : (ok : Bool) → within h t ≡ ok → (roomsOf h t .map ≤ maxWords) × (roomsOf h t .stack ≤ maxWords) × (roomsOf h t .list ≤ 2 * maxWords)
+    go true e = rw e (omega (arith, limits h t e, div-le-self (h - 1) t))
+    go false e = rw e (omega arith)
 
--- A figure keeps to a bound that holds within the limits.
-figure-below : (h t n b : ℕ) → 0 < b → (Limits h t → n < b) → figure h t n < b
-unfolding figure
-figure-below h t n b some bound = go (within h t) refl
-  where
-    go : (ok : Bool) → within h t ≡ ok → cond ok n 0 < b
-    go true e = bound (limits h t e)
-    go false e = some
+-- What the figures that a call has worked out say of the limits.
+module _ (h t : ℕ) {rooms : Rooms} (e : rooms ≡ roomsOf h t) where
+  -- A map figure of 0 comes only out of the limits.
+  pub map-zero : rooms .map ≡ 0 → within h t ≡ false
+  unfolding mapWords
+  map-zero z = go (within h t) refl
+    where
+      go : (ok : Bool) → within h t ≡ ok → ok ≡ false
+      go true i = let needs : rooms .map ≡ mapWords h = rw (e, rooms-in h t i) in absurd (omega (arith, limits h t i))
+      go false i = refl
 
--- Every figure is a 32-bit number.
-pub map-figure-fits : (h t : ℕ) → figure h t (mapWords h) < 2 ^ 32
-unfolding mapWords
-map-figure-fits h t = figure-below h t _ _ (lit< tt) (λ l. omega arith)
+  module _ (some : rooms .map ≢ 0) where
+    -- Any other is given within them.
+    pub allowed : within h t ≡ true
+    allowed = eq-true-of-not-eq-false (λ out. some (rw (e, rooms-out h t out)))
 
-pub stack-figure-fits : (h t : ℕ) → figure h t (stackWords h t) < 2 ^ 32
-unfolding stackWords
-stack-figure-fits h t = figure-below h t _ _ (lit< tt) (λ l. omega (arith, div-le-self (h - 1) t))
+    pub map-needs : rooms .map ≡ mapWords h
+    map-needs = rw (e, rooms-in h t allowed)
 
-pub list-figure-fits : (h t : ℕ) → figure h t (listWords h t) < 2 ^ 32
-unfolding listWords listRoom stackWords
-list-figure-fits h t = figure-below h t _ _ (lit< tt) (λ l. omega (arith, div-le-self (h - 1) t))
-
--- The map figure is 0 only out of the limits.
-pub map-figure-zero : (h t : ℕ) → figure h t (mapWords h) ≡ 0 → within h t ≡ false
-unfolding figure mapWords
-map-figure-zero h t = go (within h t) refl
-  where
-    go : (ok : Bool) → within h t ≡ ok → cond ok (mapWords h) 0 ≡ 0 → ok ≡ false
-    go true e z = absurd (omega (arith, limits h t e))
-    go false e z = refl
+    pub list-needs : rooms .list ≡ listWords h t
+    list-needs = rw (e, rooms-in h t allowed)
 
 -- A map of the needed length has a word for each bit of the heap.
 pub bit-inside : (h a : ℕ) → a < h → a / 32 < mapWords h

@@ -1,6 +1,7 @@
 -- Laws of set-up's first list.
 use Prim.Native.Nat.{ℕ, suc, _-_, _*_, _/_, _≤_, _<_}
 use mathlib.Core.Path.{_≡_, refl, sym, ap, _∙_}
+use mathlib.Core.Logic.{_≢_}
 use mathlib.Core.Bool.{true, false}
 use mathlib.Core.List.{List, [], _∷_, _++_}
 use native.Mathlib.Nat.{le-div-iff-mul-le, sub-zero}
@@ -9,8 +10,9 @@ use lib.ListN.{length, set, take, drop, replicate}
 use lib.Seq.{length-take-le}
 use borrow.Author.Tests.{le-leb, lt-leb}
 use Rattle.layout.specs.Intervals.{flat, shown}
-use Rattle.layout.specs.Limits.{within, mapWords, stackWords, listRoom, listWords, figure}
-use Rattle.layout.specs.LimitsLaws.{figure-in}
+use Rattle.layout.specs.Limits.{within, mapWords, stackWords, listRoom, listWords, roomsOf}
+use Rattle.layout.specs.LimitsLaws.{map-zero, allowed, map-needs, list-needs}
+use Rattle.layout.specs.declared.Rooms.{Rooms}
 use Rattle.layout.specs.SetUp.{prepared, firstList, setUpRefused, setsUp}
 
 -- A heap with fewer words than the keep length has no list.
@@ -43,34 +45,39 @@ module _ (h t : ℕ) (keeps : 1 ≤ t) (l : t ≤ h - 1) where
       let d : suc (suc m) - 2 ≡ m = omega arith in
       rw (le-leb t (h - 1) l, e, d)
 
-module _ (heap : List ℕ) (t : ℕ) (map list : List ℕ) where
-  -- Out of the limits set-up refuses with 1.
-  pub refuses-limits : within (length heap) t ≡ false → prepared (setUpRefused 1) map list ≡ setsUp heap t map list
+module _ (heap : List ℕ) (t : ℕ) (map list : List ℕ) {rooms : Rooms} (e : rooms ≡ roomsOf (length heap) t) where
+  -- Where the map figure is 0 set-up refuses with 1.
+  pub refuses-limits : rooms .map ≡ 0 → prepared (setUpRefused 1) map list ≡ setsUp heap t map list
   unfolding setsUp
-  refuses-limits e = rw e
+  refuses-limits z = rw (map-zero (length heap) t e z)
 
-  module _ {m n : ℕ} (ok : within (length heap) t ≡ true) (em : m ≡ figure (length heap) t (mapWords (length heap))) (en : n ≡ figure (length heap) t (listWords (length heap) t)) where
-    map-needs : m ≡ mapWords (length heap)
-    map-needs = em ∙ figure-in _ _ _ ok
+  module _ (some : rooms .map ≢ 0) where
+    -- Else the figures are what is needed.
+    within-limits : within (length heap) t ≡ true
+    within-limits = allowed (length heap) t e some
 
-    list-needs : n ≡ listWords (length heap) t
-    list-needs = en ∙ figure-in _ _ _ ok
+    map-room : rooms .map ≡ mapWords (length heap)
+    map-room = map-needs (length heap) t e some
+
+    list-room : rooms .list ≡ listWords (length heap) t
+    list-room = list-needs (length heap) t e some
 
     -- With a short map it refuses with 2.
-    pub refuses-map : length map < m → prepared (setUpRefused 2) map list ≡ setsUp heap t map list
+    pub refuses-map : length map < rooms .map → prepared (setUpRefused 2) map list ≡ setsUp heap t map list
     unfolding setsUp
-    refuses-map l = rw (ok, lt-leb (mapWords (length heap)) (length map) (rw map-needs at l))
+    refuses-map l = rw (within-limits, lt-leb (mapWords (length heap)) (length map) (rw map-room at l))
 
-    module _ (room : m ≤ length map) where
+    module _ (m : rooms .map ≤ length map) where
       -- With a short list it refuses with 2.
-      pub refuses-list : length list < n → prepared (setUpRefused 2) map list ≡ setsUp heap t map list
+      pub refuses-list : length list < rooms .list → prepared (setUpRefused 2) map list ≡ setsUp heap t map list
       unfolding setsUp
-      refuses-list l = rw (ok, le-leb (mapWords (length heap)) (length map) (rw map-needs at room), lt-leb (listWords (length heap) t) (length list) (rw list-needs at l))
+      refuses-list l =
+          rw (within-limits, le-leb (mapWords (length heap)) (length map) (rw map-room at m), lt-leb (listWords (length heap) t) (length list) (rw list-room at l))
 
       -- Else the needed parts are those of a fresh heap, and the rest stays.
-      pub accepts : {count : ℕ} {zeros first : List ℕ} → n ≤ length list → count ≡ length (firstList (length heap) t)
-          → zeros ≡ replicate (length (take m map)) 0 → first ≡ shown (listWords (length heap) t) (firstList (length heap) t)
-          → prepared (record { code = 0; state = record { words = length heap; keep = t; count = count } }) (zeros ++ drop m map) (first ++ drop n list) ≡ setsUp heap t map list
+      pub accepts : {count : ℕ} {zeros first : List ℕ} → rooms .list ≤ length list → count ≡ length (firstList (length heap) t)
+          → zeros ≡ replicate (length (take (rooms .map) map)) 0 → first ≡ shown (listWords (length heap) t) (firstList (length heap) t)
+          → prepared (record { code = 0; state = record { words = length heap; keep = t; count = count } }) (zeros ++ drop (rooms .map) map) (first ++ drop (rooms .list) list) ≡ setsUp heap t map list
       unfolding setsUp
       accepts l ec ez ef =
-          rw (ok, le-leb (mapWords (length heap)) (length map) (rw map-needs at room), le-leb (listWords (length heap) t) (length list) (rw list-needs at l), ec, ez, ef, length-take-le m map room, map-needs, list-needs)
+          rw (within-limits, le-leb (mapWords (length heap)) (length map) (rw map-room at m), le-leb (listWords (length heap) t) (length list) (rw list-room at l), ec, ez, ef, length-take-le (rooms .map) map m, map-room, list-room)

@@ -1,15 +1,70 @@
 // The ground of the collector: words, headers, the map's bits, limits, room figures and set-up.
 pub mod bits;
-pub mod header;
-pub mod rooms;
 pub mod words;
 
 ghost use mathlib.Core.Path.{_≡_};
 ghost use mathlib.Core.Bool.{true};
+ghost use Prim.Native.Nat.{_≤_, _<_};
 ghost use lib.ListN.{length};
+ghost use Rattle.layout.specs.Header.{headerAt, wellFormed};
 ghost use Rattle.layout.specs.Intervals.{shown};
-ghost use Rattle.layout.specs.Limits.{within, listWords};
+ghost use Rattle.layout.specs.Limits.{maxWords, within, listWords, roomsOf};
 ghost use Rattle.layout.specs.SetUp.{prepared, firstList, setUpRefused, setsUp};
+
+// The parts of an object's header: its size, header included, and how many references it has.
+pub struct Header {
+    pub size: usize,
+    pub refs: usize,
+}
+
+impl Header {
+    // The header at a.
+    pub fn at(heap: &[u32], a: usize) -> Header
+        requires { ⌜ a < length (now heap) ⌝ }
+        ensures { λ r. ⌜ r ≡ headerAt (now (heap .entry)) a ⌝ }
+    {
+        let word = heap[a];
+        let size = (word % 65536) as usize;
+        let refs = (word / 65536) as usize;
+        Header { size, refs }
+    }
+
+    // Whether the object at a is well-formed.
+    pub fn is_formed(heap: &[u32], keep: usize, a: usize) -> bool
+        requires { ⌜ (a < length (now heap)) × (length (now heap) ≤ maxWords) ⌝ }
+        ensures { λ r. ⌜ r ≡ wellFormed (now (heap .entry)) keep a ⌝ }
+    {
+        let header = Header::at(heap, a);
+        let size = header.size;
+        (keep <= size) & (header.refs < size) & (a + size <= heap.len())
+    }
+}
+
+// How many words of map, stack and list a heap needs.
+pub struct Rooms {
+    pub map: usize,
+    pub stack: usize,
+    pub list: usize,
+}
+
+impl Rooms {
+    // The rooms for a heap of so many words with such a keep length; all are 0 out of the limits, the map's only then.
+    pub fn of(words: usize, keep: usize) -> Rooms
+        ensures { λ r. ⌜ r ≡ roomsOf words keep ⌝ }
+    {
+        if !((1 <= words) & (words <= State::MAX_WORDS) & (1 <= keep) & (keep <= State::MAX_KEEP)) {
+            return Rooms {
+                map: 0,
+                stack: 0,
+                list: 0,
+            };
+        }
+        let map = (words + 31) / 32;
+        let stack = (words - 1) / keep;
+        let list = 2 * stack;
+        Rooms { map, stack, list }
+    }
+}
 
 // What a caller hands in and gets back: the heap's words, the keep length and the list's count.
 pub struct State {
@@ -31,24 +86,18 @@ impl State {
     // The greatest keep length.
     pub const MAX_KEEP: usize = 65535;
 
-    // Whether a heap of so many words may have such a keep length.
-    pub fn allows(words: usize, keep: usize) -> bool
-        ensures { λ r. ⌜ r ≡ within words keep ⌝ }
-    {
-        (1 <= words) & (words <= State::MAX_WORDS) & (1 <= keep) & (keep <= State::MAX_KEEP)
-    }
-
     // Sets a heap up with no object on it: clears map and list, and lists all words but word 0.
     pub fn set_up(heap: &[u32], keep: usize, map: &mut [u32], list: &mut [u32]) -> SetUp
         ensures { λ r.
             ⌜ prepared r (now (map .exit)) (now (list .exit)) ≡ setsUp (now (heap .entry)) keep (now (map .entry)) (now (list .entry)) ⌝ }
     {
         let words = heap.len();
-        if !State::allows(words, keep) {
+        let rooms = Rooms::of(words, keep);
+        let m = rooms.map;
+        let n = rooms.list;
+        if m == 0 {
             return refused(1);
         }
-        let m = rooms::map_words(words, keep);
-        let n = rooms::list_words(words, keep);
         if map.len() < m {
             return refused(2);
         }

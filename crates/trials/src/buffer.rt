@@ -1,6 +1,6 @@
-// Buffers full of junk, and what is left of it.
+// Buffers full of junk, and how much of the junk is gone.
 
-// The junk at index i: never 0, and seldom the same twice in a row.
+// The junk at index i: no 0 and no 1, and seldom the same twice.
 fn junk(i: usize) -> u32 {
     ((i % 65521) as u32) * 65537 + 9
 }
@@ -12,33 +12,35 @@ pub fn spoil(words: &mut [u32]) {
     }
 }
 
-// What is written of a buffer: its first two words, zeros up to `needed`, then junk. With `needed` 0 all is junk.
-pub struct Left {
-    pub needed: usize,
-    pub first: u32,
-    pub second: u32,
-}
-
-// The word written for index i.
-fn written(left: Left, i: usize) -> u32 {
-    if left.needed <= i {
-        return junk(i);
-    }
-    if i == 0 {
-        return left.first;
-    }
-    if i == 1 {
-        return left.second;
-    }
-    0
-}
-
-// Whether every word of a buffer is as written.
-pub fn is_left(words: &[u32], left: Left) -> bool {
+// How many words at the front are first, second, and then zeros.
+fn front(words: &[u32], first: u32, second: u32) -> usize {
     for i in 0..words.len() {
-        if words[i] != written(left, i) {
+        let mut word = 0;
+        if i == 0 {
+            word = first;
+        }
+        if i == 1 {
+            word = second;
+        }
+        if words[i] != word {
+            return i;
+        }
+    }
+    words.len()
+}
+
+// Whether all from index `at` on is junk.
+fn is_junk(words: &[u32], at: usize) -> bool {
+    for i in at..words.len() {
+        if words[i] != junk(i) {
             return false;
         }
     }
     true
+}
+
+// How many words at the front are first, second, and then zeros, if all behind them is junk; else 999999.
+pub fn written_over(words: &[u32], first: u32, second: u32) -> usize {
+    let n = front(words, first, second);
+    if is_junk(words, n) { n } else { 999999 }
 }

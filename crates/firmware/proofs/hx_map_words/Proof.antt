@@ -1,19 +1,20 @@
 -- `hx_map_words`: the figure is a 32-bit number, and 0 only out of the limits.
-use mathlib.Core.Path.{sym, _∙_}
+use mathlib.Core.Path.{ap}
 use native.Mathlib.Omega.{arith}
 use borrow.Author.Needs.{needs}
-use Rattle.layout.specs.LimitsLaws.{map-figure-fits, map-figure-zero}
+use Rattle.layout.specs.LimitsLaws.{rooms-small, map-zero}
+use Rattle.layout.specs.declared.Rooms.{Rooms}
 use Rattle.firmware.proofs.hx_map_words.Statement.{statement}
 use Rattle.firmware.proofs.hx_map_words.Tie as tie
 
-map-words-requires : tie.Need-map-words-requires
-map-words-requires c κs = search needs
+of-requires : tie.Need-of-requires
+of-requires c κs = search needs
 
 cast-result : tie.Need-cast-result
-cast-result c = omega (arith, map-figure-fits (c .before .args .words) (c .before .args .keep))
+cast-result c = let t = c .before .before .args in rw (c .before .of .ensures) (omega (arith, rooms-small (t .words) (t .keep)))
 
 returns : tie.Need-returns
-returns c = (c .map-words .ensures, λ z. map-figure-zero (c .before .args .words) (c .before .args .keep) (sym (c .map-words .ensures) ∙ z))
+returns c = (ap (λ (r : Rooms). r .map) (c .before .of .ensures), map-zero _ _ (c .before .of .ensures))
 
 pub hx-map-words-spec : {M : Type 1} → statement M
-hx-map-words-spec = tie.close (tie.spec map-words-requires cast-result returns)
+hx-map-words-spec = tie.close (tie.spec of-requires cast-result returns)

@@ -1,18 +1,18 @@
 -- `hx_stack_words`: the figure is a 32-bit number.
 use native.Mathlib.Omega.{arith}
 use borrow.Author.Needs.{needs}
-use Rattle.layout.specs.LimitsLaws.{stack-figure-fits}
+use Rattle.layout.specs.LimitsLaws.{rooms-small}
 use Rattle.firmware.proofs.hx_stack_words.Statement.{statement}
 use Rattle.firmware.proofs.hx_stack_words.Tie as tie
 
-stack-words-requires : tie.Need-stack-words-requires
-stack-words-requires c κs = search needs
+of-requires : tie.Need-of-requires
+of-requires c κs = search needs
 
 cast-result : tie.Need-cast-result
-cast-result c = omega (arith, stack-figure-fits (c .before .args .words) (c .before .args .keep))
+cast-result c = let t = c .before .before .args in rw (c .before .of .ensures) (omega (arith, rooms-small (t .words) (t .keep)))
 
 returns : tie.Need-returns
-returns c = search needs
+returns c = rw (c .before .of .ensures)
 
 pub hx-stack-words-spec : {M : Type 1} → statement M
-hx-stack-words-spec = tie.close (tie.spec stack-words-requires cast-result returns)
+hx-stack-words-spec = tie.close (tie.spec of-requires cast-result returns)

@@ -1,62 +1,47 @@
 -- `State::set_up`: each way out is a law of `setsUp`.
-use Prim.Native.Nat.{ℕ}
-use mathlib.Core.Path.{_≡_, sym, ap, ap₂, _∙_}
-use mathlib.Core.Bool.{true}
-use mathlib.Core.List.{List, _++_}
-use lib.ListN.{length, drop}
+use mathlib.Core.Path.{sym, _∙_}
 use lib.Seq.{length-take-le}
 use borrow.Author.Needs.{needs}
-use borrow.Author.Tests.{not-true, not-false}
-use Rattle.layout.specs.Limits.{within, mapWords, listWords}
-use Rattle.layout.specs.LimitsLaws.{figure-in}
+use Rattle.layout.specs.LimitsLaws.{allowed, list-needs}
 use Rattle.layout.specs.SetUpLaws.{refuses-limits, refuses-map, refuses-list, accepts}
 use Rattle.layout.proofs.State.set_up.Statement.{statement}
 use Rattle.layout.proofs.State.set_up.Tie as tie
 
-allows-requires : tie.Need-allows-requires
-allows-requires c κs = search needs
+-- What was lent, seen from where the figures are known.
+abbrev start : tie.After-of → tie.Start
+start c = c .before .before .before .before
+
+of-requires : tie.Need-of-requires
+of-requires c κs = search needs
 
 refused-requires : tie.Need-refused-requires
 refused-requires c κs = search needs
 
 returns : tie.Need-returns
 returns c =
-    let t = c .before .before .before .before .before .before .args in
-    rw (c .refused .ensures)
-    (refuses-limits (t .heap .now) (t .keep) (t .map .now) (t .list .now) (sym (c .before .before .allows .ensures) ∙ not-true _ (c .before .if1 .taken)))
-
-map-words-requires : tie.Need-map-words-requires
-map-words-requires c κs = search needs
-
-list-words-requires : tie.Need-list-words-requires
-list-words-requires c κs = search needs
-
--- What was lent, seen from where the figures are known.
-abbrev start : tie.After-list-words → tie.Start
-start c = c .before .before .before .before .before .before .before
-
-inside : (c : tie.After-list-words) → within (length (start c .args .heap .now)) (start c .args .keep) ≡ true
-inside c = sym (c .before .before .before .allows .ensures) ∙ not-false _ (c .before .before .if1 .left)
+    let d = c .before .before in
+    let t = start d .args in
+    rw (c .refused .ensures) (refuses-limits (t .heap .now) (t .keep) (t .map .now) (t .list .now) (d .of .ensures) (c .before .if1 .taken))
 
 refused-requires-2 : tie.Need-refused-requires-2
 refused-requires-2 c κs = search needs
 
 returns-2 : tie.Need-returns-2
 returns-2 c =
-    let d = c .before .before in
+    let d = c .before .before .before in
     let t = start d .args in
     rw (c .refused2 .ensures)
-    (refuses-map (t .heap .now) (t .keep) (t .map .now) (t .list .now) (inside d) (d .before .map-words .ensures) (d .list-words .ensures) (c .before .if2 .taken))
+    (refuses-map (t .heap .now) (t .keep) (t .map .now) (t .list .now) (d .of .ensures) (c .before .before .if1 .left) (c .before .if2 .taken))
 
 refused-requires-3 : tie.Need-refused-requires-3
 refused-requires-3 c κs = search needs
 
 returns-3 : tie.Need-returns-3
 returns-3 c =
-    let d = c .before .before .before in
+    let d = c .before .before .before .before in
     let t = start d .args in
     rw (c .refused3 .ensures)
-    (refuses-list (t .heap .now) (t .keep) (t .map .now) (t .list .now) (inside d) (d .before .map-words .ensures) (d .list-words .ensures) (c .before .before .if2 .left) (c .before .if3 .taken))
+    (refuses-list (t .heap .now) (t .keep) (t .map .now) (t .list .now) (d .of .ensures) (c .before .before .before .if1 .left) (c .before .before .if2 .left) (c .before .if3 .taken))
 
 slice-relend-prefix-clear : tie.Need-slice-relend-prefix-clear
 slice-relend-prefix-clear c = search needs
@@ -75,7 +60,11 @@ slice-aggregate-first-list c = sym (length-take-le _ _ (c .before .before .befor
 
 first-list-requires : tie.Need-first-list-requires
 first-list-requires c κs =
-    let d = c .before .before .before .before .before .before .before in (inside d, length-take-le _ _ (c .before .before .before .before .before .if3 .left) ∙ d .list-words .ensures ∙ figure-in _ _ _ (inside d))
+    let d = c .before .before .before .before .before .before .before .before in
+    let some = c .before .before .before .before .before .before .before .if1 .left in (
+      allowed _ _ (d .of .ensures) some,
+      length-take-le _ _ (c .before .before .before .before .before .if3 .left) ∙ list-needs _ _ (d .of .ensures) some,
+    )
 
 same-length : tie.Need-same-length
 same-length c = search needs
@@ -85,20 +74,19 @@ same-length-2 c = search needs
 
 returns-4 : tie.Need-returns-4
 returns-4 c =
-    let d = c .before .before .before .before .before .before .before .before .before .before in
+    let d = c .before .before .before .before .before .before .before .before .before .before .before in
     let t = start d .args in
-    accepts (t .heap .now) (t .keep) (t .map .now) (t .list .now) (inside d) (d .before .map-words .ensures) (d .list-words .ensures)
-    (c .before .before .before .before .before .before .before .before .before .if2 .left) (c .before .before .before .before .before .before .before .before .if3 .left) (c .before .before .first-list .ensures .0) (c .before .before .before .before .before .before .clear .ensures) (c .before .before .first-list .ensures .1)
+    let first = c .before .before .first-list .ensures in
+    accepts (t .heap .now) (t .keep) (t .map .now) (t .list .now) (d .of .ensures) (c .before .before .before .before .before .before .before .before .before .before .if1 .left) (c .before .before .before .before .before .before .before .before .before .if2 .left) (c .before .before .before .before .before .before .before .before .if3 .left)
+    (first .0) (c .before .before .before .before .before .before .clear .ensures) (first .1)
 
 pub set-up-spec : {M : Type 1} → statement M
 set-up-spec =
     tie.close
     (tie.spec
-    allows-requires
+    of-requires
     refused-requires
     returns
-    map-words-requires
-    list-words-requires
     refused-requires-2
     returns-2
     refused-requires-3
