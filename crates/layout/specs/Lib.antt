@@ -1,11 +1,6 @@
-pub mod CoverLaws
-pub mod Header
-pub mod HeaderLaws
 pub mod Intervals
 pub mod Limits
 pub mod LimitsLaws
-pub mod Map
-pub mod MapLaws
 pub mod Refusal
 pub mod SetUp
 pub mod SetUpLaws

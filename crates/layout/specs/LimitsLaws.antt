@@ -1,12 +1,11 @@
 -- Laws of the limits and of the room figures.
-use Prim.Native.Nat.{ℕ, _+_, _-_, _*_, _/_, _≤_, _<_}
+use Prim.Native.Nat.{ℕ, _-_, _*_, _/_, _≤_, _<_}
 use mathlib.Core.Path.{_≡_, refl}
 use mathlib.Core.Logic.{_≢_}
 use mathlib.Core.Bool.{Bool, true, false, _&&_, and-eq-true-iff}
 use mathlib.Mathlib.Data.Bool.Basic.{eq-true-of-not-eq-false}
 use native.Mathlib.Nat.{div-le-self}
 use native.Mathlib.Omega.{arith}
-use lib.Dec.{leb}
 use borrow.Author.Tests.{leb-true}
 use Rattle.layout.specs.Limits.{maxWords, maxKeep, within, mapWords, stackWords, listRoom, listWords, roomsOf}
 use Rattle.layout.specs.declared.Rooms.{Rooms}

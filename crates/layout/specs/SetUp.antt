@@ -7,7 +7,6 @@ use lib.Dec.{leb}
 use Rattle.layout.specs.Limits.{within, mapWords, listWords}
 use Rattle.layout.specs.Intervals.{Interval, shown}
 use Rattle.layout.specs.Refusal.{unless}
-use Rattle.layout.specs.declared.State.{State}
 use Rattle.layout.specs.declared.SetUp.{SetUp}
 
 -- What set-up answers, and what stands in map and list afterwards.

@@ -1,44 +1,12 @@
-// The ground of the collector: words, headers, the map's bits, limits, room figures and set-up.
-pub mod bits;
-pub mod words;
+// What a caller lends and hands in: limits, room figures, the state and set-up.
+pub mod parts;
 
 ghost use mathlib.Core.Path.{_≡_};
 ghost use mathlib.Core.Bool.{true};
-ghost use Prim.Native.Nat.{_≤_, _<_};
 ghost use lib.ListN.{length};
-ghost use Rattle.layout.specs.Header.{headerAt, wellFormed};
 ghost use Rattle.layout.specs.Intervals.{shown};
-ghost use Rattle.layout.specs.Limits.{maxWords, within, listWords, roomsOf};
+ghost use Rattle.layout.specs.Limits.{within, listWords, roomsOf};
 ghost use Rattle.layout.specs.SetUp.{prepared, firstList, setUpRefused, setsUp};
-
-// The parts of an object's header: its size, header included, and how many references it has.
-pub struct Header {
-    pub size: usize,
-    pub refs: usize,
-}
-
-impl Header {
-    // The header at a.
-    pub fn at(heap: &[u32], a: usize) -> Header
-        requires { ⌜ a < length (now heap) ⌝ }
-        ensures { λ r. ⌜ r ≡ headerAt (now (heap .entry)) a ⌝ }
-    {
-        let word = heap[a];
-        let size = (word % 65536) as usize;
-        let refs = (word / 65536) as usize;
-        Header { size, refs }
-    }
-
-    // Whether the object at a is well-formed.
-    pub fn is_formed(heap: &[u32], keep: usize, a: usize) -> bool
-        requires { ⌜ (a < length (now heap)) × (length (now heap) ≤ maxWords) ⌝ }
-        ensures { λ r. ⌜ r ≡ wellFormed (now (heap .entry)) keep a ⌝ }
-    {
-        let header = Header::at(heap, a);
-        let size = header.size;
-        (keep <= size) & (header.refs < size) & (a + size <= heap.len())
-    }
-}
 
 // How many words of map, stack and list a heap needs.
 pub struct Rooms {
@@ -104,7 +72,7 @@ impl State {
         if list.len() < n {
             return refused(2);
         }
-        words::clear(&mut map[..m]);
+        parts::clear(&mut map[..m]);
         let count = first_list(words, keep, &mut list[..n]);
         SetUp {
             code: 0,
@@ -133,7 +101,7 @@ pub fn first_list(words: usize, keep: usize, list: &mut [u32]) -> usize
     ensures { λ r. ⌜ r ≡ length (firstList words keep) ⌝ }
     ensures { λ r. ⌜ now (list .exit) ≡ shown (listWords words keep) (firstList words keep) ⌝ }
 {
-    words::clear(list);
+    parts::clear(list);
     let all = words - 1;
     if all < keep {
         return 0;

@@ -50,34 +50,26 @@ fn set_up_in(line: &[u8], place: [usize; 5], heap: &[u32], map: &mut [u32], list
     set_up(line, &heap[..h], place[2], &mut map[..m], &mut list[..n]);
 }
 
-// One trial: the line that begins at `at`. Answers where the next one begins.
-fn trial(text: &[u8], at: usize, heap: &[u32], map: &mut [u32], list: &mut [u32]) -> usize
-    requires { ⌜ at < length (now text) ⌝ }
-    ensures { λ r. ⌜ at < r ⌝ }
-{
-    let line = lines::line_at(text, at);
-    let place = line.place;
-    let end = line.end;
-    if text[at] == b'f' {
-        figures(&text[at..end], place[1], place[2]);
-        return end + 1;
+// One trial, in buffers as long as the longest that a line asks for.
+fn trial(line: &[u8], kind: u8, place: [usize; 5]) {
+    if kind == b'f' {
+        figures(line, place[1], place[2]);
+        return;
     }
-    set_up_in(&text[at..end], place, heap, map, list);
-    end + 1
-}
-
-// All of them.
-fn each(text: &[u8], heap: &[u32], map: &mut [u32], list: &mut [u32]) {
-    let mut at = 0;
-    while at < text.len() {
-        at = trial(text, at, heap, map, list);
-    }
-}
-
-// All of them, in buffers as long as the longest that a line asks for.
-pub fn all(text: &[u8]) {
     let heap = [7u32; 65537];
     let mut map = [0u32; 2050];
     let mut list = [0u32; 131073];
-    each(text, &heap, &mut map, &mut list);
+    set_up_in(line, place, &heap, &mut map, &mut list);
+}
+
+// All lines, a trial each.
+pub fn all(text: &[u8]) {
+    let mut at = 0;
+    while at < text.len() {
+        let line = lines::line_at(text, at);
+        let place = line.place;
+        let end = line.end;
+        trial(&text[at..end], text[at], place);
+        at = end + 1;
+    }
 }

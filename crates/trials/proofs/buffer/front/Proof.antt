@@ -1,9 +1,8 @@
+-- `buffer::front` is safe and ends.
 use Prim.Native.Nat.{_-_, _≤_}
 use borrow.Author.Needs.{needs}
 use Rattle.trials.proofs.buffer.front.Statement.{statement}
 use Rattle.trials.proofs.buffer.front.Tie as tie
-use Rattle.trials.proofs.buffer.front.Reads as reads
-use Rattle.trials.proofs.buffer.front.Lts as lts
 
 abbrev Inv-loop : tie.InvT-loop
 Inv-loop words first second i₀ i-end i = i ≤ i-end
@@ -11,35 +10,27 @@ Inv-loop words first second i₀ i-end i = i ≤ i-end
 abbrev μ-loop : tie.MeasureT-loop
 μ-loop words first second i₀ i-end i = i-end - i
 
--- src/buffer.rt:17:5
 loop-holds : tie.Need-loop-holds Inv-loop μ-loop
 loop-holds c = search needs
 
--- src/buffer.rt:25:12
 mul-if3 : tie.Need-mul-if3 Inv-loop μ-loop
 mul-if3 c = search needs
 
--- src/buffer.rt:25:12
 shared-slice-read-if3 : tie.Need-shared-slice-read-if3 Inv-loop μ-loop
 shared-slice-read-if3 c = search needs
 
--- src/buffer.rt:26:13
 returns : tie.Need-returns Inv-loop μ-loop
 returns c = search needs
 
--- src/buffer.rt:17:9
 add-i : tie.Need-add-i Inv-loop μ-loop
 add-i c = search needs
 
--- src/buffer.rt:17:5
 loop-less : tie.Need-loop-less Inv-loop μ-loop
 loop-less c = search needs
 
--- src/buffer.rt:17:5
 loop-again : tie.Need-loop-again Inv-loop μ-loop
 loop-again c = search needs
 
--- src/buffer.rt:16:1
 returns-2 : tie.Need-returns-2 Inv-loop μ-loop
 returns-2 c = search needs
 

@@ -1,0 +1,25 @@
+// Bits of the map.
+ghost use mathlib.Core.Path.{_≡_};
+ghost use Prim.Native.Nat.{_/_, _<_};
+ghost use lib.ListN.{length};
+ghost use Rattle.words.specs.Map.{bitAt, setBit};
+
+// Whether bit a of the map is set.
+pub fn is_set(map: &[u32], a: usize) -> bool
+    requires { ⌜ a / 32 < length (now map) ⌝ }
+    ensures { λ r. ⌜ r ≡ bitAt (now (map .entry)) a ⌝ }
+{
+    let w = a / 32;
+    let b = a % 32;
+    (map[w] >> b) % 2 == 1
+}
+
+// Sets bit a of the map.
+pub fn set(map: &mut [u32], a: usize)
+    requires { ⌜ a / 32 < length (now map) ⌝ }
+    ensures { λ _. ⌜ now (map .exit) ≡ setBit (now (map .entry)) a ⌝ }
+{
+    let w = a / 32;
+    let b = a % 32;
+    map[w] = map[w] | 1u32 << b;
+}
