@@ -1,5 +1,15 @@
 // Buffers full of junk, and how much of the junk is gone.
 
+ghost use mathlib.Core.Path.{_≡_};
+ghost use lib.ListN.{length};
+
+// A buffer longer than any that a set-up needs.
+pub fn long() -> [u32; 131073]
+    ensures { λ r. ⌜ 131073 ≡ length r ⌝ }
+{
+    [7; 131073]
+}
+
 // The junk at index i: no 0 and no 1, and seldom the same twice.
 fn junk(i: usize) -> u32 {
     ((i % 65521) as u32) * 65537 + 9

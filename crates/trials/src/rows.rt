@@ -50,15 +50,15 @@ fn set_up_in(line: &[u8], place: [usize; 5], heap: &[u32], map: &mut [u32], list
     set_up(line, &heap[..h], place[2], &mut map[..m], &mut list[..n]);
 }
 
-// One trial, in buffers as long as the longest that a line asks for.
+// One trial.
 fn trial(line: &[u8], kind: u8, place: [usize; 5]) {
     if kind == b'f' {
         figures(line, place[1], place[2]);
         return;
     }
-    let heap = [7u32; 65537];
-    let mut map = [0u32; 2050];
-    let mut list = [0u32; 131073];
+    let heap = buffer::long();
+    let mut map = buffer::long();
+    let mut list = buffer::long();
     set_up_in(line, place, &heap, &mut map, &mut list);
 }
 
