@@ -36,7 +36,7 @@ or-pow : (x k : ℕ) → bitOr x (2 ^ k) + x / 2 ^ k % 2 * 2 ^ k ≡ x + 2 ^ k
 or-pow x k = rw (← and-pow x k) (or-add-and x (2 ^ k))
 
 -- To set a bit is to store the word with the bit's power of two joined to it.
-pub setBit-or : (map : List ℕ) (a : ℕ) → setBit map a ≡ set map (a / 32) (bitOr (getD map (a / 32) 0) (2 ^ (a % 32)))
+setBit-or : (map : List ℕ) (a : ℕ) → setBit map a ≡ set map (a / 32) (bitOr (getD map (a / 32) 0) (2 ^ (a % 32)))
 unfolding setBit bitAt
 setBit-or map a = go (bitAt map a) refl
   where
@@ -132,9 +132,12 @@ words-setBit map a ok =
     (words-set map (a / 32) (bitOr (getD map (a / 32) 0) (2 ^ (a % 32))) ok
     (or-lt 32 (getD map (a / 32) 0) (2 ^ (a % 32)) (ok (a / 32)) (pow-lt (mod-lt a {m = 32} (lit< tt)))))
 
--- Shifting 1 to a bit's place is exact.
-pub shifted : (a : ℕ) → 1 * 2 ^ (a % 32) % 2 ^ 32 ≡ 2 ^ (a % 32)
-shifted a = shl-exact {a = 1} 1 (a % 32) 32 (lit< tt) (omega (arith, mod-lt a {m = 32} (lit< tt))) ∙ one-mul _
+-- Joining a shifted 1 to the word sets the bit.
+pub shift-sets : (map : List ℕ) (a : ℕ) → set map (a / 32) (bitOr (getD map (a / 32) 0) (1 * 2 ^ (a % 32) % 2 ^ 32)) ≡ setBit map a
+shift-sets map a =
+    let shifted : 1 * 2 ^ (a % 32) % 2 ^ 32 ≡ 2 ^ (a % 32) =
+    shl-exact {a = 1} 1 (a % 32) 32 (lit< tt) (omega (arith, mod-lt a {m = 32} (lit< tt))) ∙ one-mul (2 ^ (a % 32)) in
+    rw (setBit-or map a, shifted)
 
 -- What a start on the map says.
 pub record Start (h : ℕ) (map : List ℕ) (a : ℕ) : Type 0 where

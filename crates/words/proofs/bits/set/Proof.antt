@@ -1,6 +1,6 @@
 -- `bits::set`: joining the bit's power of two to the word sets the bit.
 use borrow.Author.Needs.{needs}
-use Rattle.words.specs.MapLaws.{setBit-or, shifted}
+use Rattle.words.specs.MapLaws.{shift-sets}
 use Rattle.words.proofs.bits.set.Statement.{statement}
 use Rattle.words.proofs.bits.set.Tie as tie
 
@@ -26,7 +26,7 @@ same-length : tie.Need-same-length
 same-length c = search needs
 
 returns : tie.Need-returns
-returns c = let t = c .before .args in rw (setBit-or (t .map .now) (t .a), shifted (t .a))
+returns c = shift-sets (c .before .args .map .now) (c .before .args .a)
 
 pub set-spec : {M : Type 1} → statement M
 set-spec =
