@@ -2,7 +2,7 @@
 use Prim.Native.Nat.{ℕ, _-_, _*_, _/_, _≤_, _<_}
 use mathlib.Core.Path.{_≡_, refl}
 use mathlib.Core.Logic.{_≢_}
-use mathlib.Core.Bool.{Bool, true, false, _&&_, and-eq-true-iff}
+use mathlib.Core.Bool.{Bool, true, false, and-eq-true-iff}
 use mathlib.Mathlib.Data.Bool.Basic.{eq-true-of-not-eq-false}
 use native.Mathlib.Nat.{div-le-self}
 use native.Mathlib.Omega.{arith}
@@ -17,17 +17,13 @@ pub record Limits (h t : ℕ) : Type 0 where
   pub keeps : 1 ≤ t
   pub keep : t ≤ maxKeep
 
--- A test that holds of two holds of each.
-both : {a b : Bool} → a && b ≡ true → (a ≡ true) × (b ≡ true)
-both {a} {b} e = and-eq-true-iff a b .0 e
-
 -- Within the limits each bound holds.
 pub limits : (h t : ℕ) → within h t ≡ true → Limits h t
 unfolding within
 limits h t e =
-    let x = both e in
-    let y = both (x .0) in
-    let z = both (y .0) in
+    let x = and-eq-true-iff _ _ .0 e in
+    let y = and-eq-true-iff _ _ .0 (x .0) in
+    let z = and-eq-true-iff _ _ .0 (y .0) in
     record { some = leb-true 1 h (z .0); words = leb-true h maxWords (z .1); keeps = leb-true 1 t (y .1); keep = leb-true t maxKeep (x .1) }
 
 -- Within the limits the figures are what is needed.

@@ -1,4 +1,4 @@
--- Laws of set-up's first list.
+-- Laws of set-up: its first list, and its ways out.
 use Prim.Native.Nat.{ℕ, suc, _-_, _≤_, _<_}
 use mathlib.Core.Path.{_≡_}
 use mathlib.Core.Logic.{_≢_}
