@@ -57,9 +57,8 @@ pub fn line_at(text: &[u8], at: usize) -> Line
     Line { place, end }
 }
 
-// Prints a line's own bytes, " gave" and numbers.
-pub fn print(line: &[u8], came: &[usize]) {
-    io::write_all(STDOUT_FILENO, line);
+// Prints " gave", the numbers that came, and the end of the line.
+pub fn print(came: &[usize]) {
     io::write_all(STDOUT_FILENO, b" gave");
     numbers(came);
     io::write_all(STDOUT_FILENO, b"\n");

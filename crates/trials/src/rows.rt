@@ -3,18 +3,17 @@ use crate::buffer;
 use crate::lines;
 use layout::Rooms;
 use layout::State;
-ghost use Prim.Native.Nat.{_<_};
-ghost use lib.ListN.{length};
+use libc::STDOUT_FILENO;
 
 // Room figures. Given: words, keep. Came: the words needed of map, stack and list.
-fn figures(line: &[u8], words: usize, keep: usize) {
+fn figures(words: usize, keep: usize) {
     let rooms = Rooms::of(words, keep);
-    lines::print(line, &[rooms.map, rooms.stack, rooms.list]);
+    lines::print(&[rooms.map, rooms.stack, rooms.list]);
 }
 
 // Set-up in buffers full of junk. Came: code; words, keep and count of the state; how many words of map and of list were
 // written over.
-fn set_up(line: &[u8], heap: &[u32], keep: usize, map: &mut [u32], list: &mut [u32]) {
+fn set_up(heap: &[u32], keep: usize, map: &mut [u32], list: &mut [u32]) {
     buffer::spoil(map);
     buffer::spoil(list);
     let got = State::set_up(heap, keep, map, list);
@@ -30,11 +29,11 @@ fn set_up(line: &[u8], heap: &[u32], keep: usize, map: &mut [u32], list: &mut [u
         over_map,
         over_list,
     ];
-    lines::print(line, &came);
+    lines::print(&came);
 }
 
 // The same, in parts of the buffers as long as the line says. A line that asks for more gives nothing.
-fn set_up_in(line: &[u8], place: [usize; 5], heap: &[u32], map: &mut [u32], list: &mut [u32]) {
+fn set_up_in(place: [usize; 5], heap: &[u32], map: &mut [u32], list: &mut [u32]) {
     let h = place[1];
     let m = place[3];
     let n = place[4];
@@ -47,29 +46,30 @@ fn set_up_in(line: &[u8], place: [usize; 5], heap: &[u32], map: &mut [u32], list
     if list.len() < n {
         return;
     }
-    set_up(line, &heap[..h], place[2], &mut map[..m], &mut list[..n]);
+    set_up(&heap[..h], place[2], &mut map[..m], &mut list[..n]);
 }
 
 // One trial.
-fn trial(line: &[u8], kind: u8, place: [usize; 5]) {
+fn trial(kind: u8, place: [usize; 5]) {
     if kind == b'f' {
-        figures(line, place[1], place[2]);
+        figures(place[1], place[2]);
         return;
     }
     let heap = buffer::long();
     let mut map = buffer::long();
     let mut list = buffer::long();
-    set_up_in(line, place, &heap, &mut map, &mut list);
+    set_up_in(place, &heap, &mut map, &mut list);
 }
 
-// All lines, a trial each.
+// All lines, a trial each: prints the line, and behind it what came.
 pub fn all(text: &[u8]) {
     let mut at = 0;
     while at < text.len() {
         let line = lines::line_at(text, at);
         let place = line.place;
         let end = line.end;
-        trial(&text[at..end], text[at], place);
+        io::write_all(STDOUT_FILENO, &text[at..end]);
+        trial(text[at], place);
         at = end + 1;
     }
 }

@@ -17,14 +17,17 @@ loop-holds c = search needs
 line-at-requires : tie.Need-line-at-requires Inv-loop μ-loop
 line-at-requires c κs = search needs
 
-sub-trial : tie.Need-sub-trial Inv-loop μ-loop
-sub-trial c = search needs
+sub-write-all : tie.Need-sub-write-all Inv-loop μ-loop
+sub-write-all c = search needs
 
-part-trial-start : tie.Need-part-trial-start Inv-loop μ-loop
-part-trial-start c = search needs
+part-write-all-start : tie.Need-part-write-all-start Inv-loop μ-loop
+part-write-all-start c = search needs
 
-part-trial-end : tie.Need-part-trial-end Inv-loop μ-loop
-part-trial-end c = search needs
+part-write-all-end : tie.Need-part-write-all-end Inv-loop μ-loop
+part-write-all-end c = search needs
+
+write-all-requires : tie.Need-write-all-requires Inv-loop μ-loop
+write-all-requires c κs = search needs
 
 shared-slice-read-trial : tie.Need-shared-slice-read-trial Inv-loop μ-loop
 shared-slice-read-trial c = search needs
@@ -52,9 +55,10 @@ all-spec =
     μ-loop
     loop-holds
     line-at-requires
-    sub-trial
-    part-trial-start
-    part-trial-end
+    sub-write-all
+    part-write-all-start
+    part-write-all-end
+    write-all-requires
     shared-slice-read-trial
     trial-requires
     add-at
