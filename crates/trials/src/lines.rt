@@ -60,17 +60,14 @@ pub fn line_at(text: &[u8], at: usize) -> Line
 // Prints " gave", the numbers that came, and the end of the line.
 pub fn print(came: &[usize]) {
     io::write_all(STDOUT_FILENO, b" gave");
-    numbers(came);
+    numbers(came, b" ");
     io::write_all(STDOUT_FILENO, b"\n");
 }
 
-fn numbers(came: &[usize]) {
+// Prints numbers, each behind a space.
+fn numbers(came: &[usize], space: &[u8]) {
     for i in 0..came.len() {
-        number(came[i]);
+        io::write_all(STDOUT_FILENO, space);
+        io::print_decimal(STDOUT_FILENO, came[i] as u64);
     }
-}
-
-fn number(n: usize) {
-    io::write_all(STDOUT_FILENO, b" ");
-    io::print_decimal(STDOUT_FILENO, n as u64);
 }
