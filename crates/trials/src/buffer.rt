@@ -4,10 +4,10 @@ ghost use mathlib.Core.Path.{_≡_};
 ghost use lib.ListN.{length};
 
 // A buffer as long as the longest that a trial lends.
-pub fn long() -> [u32; 65537]
-    ensures { λ r. ⌜ 65537 ≡ length r ⌝ }
+pub fn long() -> [u32; 131073]
+    ensures { λ r. ⌜ 131073 ≡ length r ⌝ }
 {
-    [7; 65537]
+    [7; 131073]
 }
 
 // The junk at index i: no 0 and no 1, and seldom the same twice.
