@@ -2,11 +2,7 @@
 use Prim.Native.Nat.{ℕ, _-_, _*_}
 use mathlib.Core.List.{List, [], _∷_, _++_}
 use lib.ListN.{length, replicate}
-
--- An interval: its first word, and how many words it has.
-pub record Interval : Type 0 where
-  pub start : ℕ
-  pub size : ℕ
+use Rattle.layout.specs.declared.Interval.{Interval}
 
 -- The words of a list: start and size of each interval.
 unfoldable pub flat : List Interval → List ℕ

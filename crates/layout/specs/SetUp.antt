@@ -5,8 +5,9 @@ use mathlib.Core.List.{List, [], _∷_, _++_}
 use lib.ListN.{length, drop, replicate}
 use lib.Dec.{leb}
 use Rattle.layout.specs.Limits.{within, mapWords, listWords}
-use Rattle.layout.specs.Intervals.{Interval, shown}
+use Rattle.layout.specs.Intervals.{shown}
 use Rattle.layout.specs.Refusal.{unless}
+use Rattle.layout.specs.declared.Interval.{Interval}
 use Rattle.layout.specs.declared.SetUp.{SetUp}
 
 -- What set-up answers, and what stands in map and list afterwards.

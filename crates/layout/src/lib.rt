@@ -34,6 +34,12 @@ impl Rooms {
     }
 }
 
+// An interval of the list: its first word, and how many words it has.
+pub struct Interval {
+    pub start: usize,
+    pub size: usize,
+}
+
 // What a caller hands in and gets back: the heap's words, the keep length and the list's count.
 pub struct State {
     pub words: usize,

@@ -1,0 +1,47 @@
+-- The objects on a map as a cover.
+use Prim.Native.Nat.{ℕ, zero, suc, _+_, _-_, _/_, _≤_, _<_}
+use mathlib.Core.Path.{_≡_, refl, ap₂}
+use mathlib.Core.Logic.{_≢_}
+use mathlib.Core.Bool.{Bool, true, _||_, and-false}
+use mathlib.Core.List.{List}
+use native.Mathlib.Omega.{arith}
+use native.Mathlib.Decide.{decLe, ℕ-discrete}
+use lib.ListN.{length}
+use borrow.Author.Tests.{le-ltb}
+use Rattle.words.specs.Header.{sizeAt}
+use Rattle.words.specs.Map.{setBit, isStart, someBelow, covered}
+use Rattle.words.specs.MapLaws.{bit-same, bit-other, is-start}
+use Rattle.words.specs.CoverLaws.{owner-covers, covered-owner}
+use Rattle.runs.specs.Covers.{Marks, Thick}
+use Rattle.runs.specs.LongestLaws.{clash}
+
+below-same : (n : ℕ) (p q : ℕ → Bool) → ((i : ℕ) → i < n → p i ≡ q i) → someBelow n p ≡ someBelow n q
+unfolding someBelow
+below-same zero p q f = refl
+below-same (suc n) p q f = ap₂ _||_ (f n (omega arith)) (below-same n p q (λ i h. f i (omega arith)))
+
+-- The starts on the map stay, but for the one that is set.
+start-other : (h : ℕ) (map : List ℕ) (r a : ℕ) → a ≢ r → isStart h (setBit map r) a ≡ isStart h map a
+unfolding isStart
+start-other h map r a other = rw (bit-other map r a other)
+
+-- An object that comes on the map covers its words, and no other.
+pub covered-marks : (heap map : List ℕ) (r : ℕ) → 0 < r → r < length heap → r / 32 < length map → Marks (covered heap map) (covered heap (setBit map r)) r (sizeAt heap r)
+unfolding covered
+covered-marks heap map r some inside room =
+    record {
+      below = λ w l. below-same (suc w) _ _ (λ a i. rw (start-other h map r a (λ e. omega arith)));
+      inside = λ w lo hi. owner-covers heap (setBit map r) w r (record { start = is-start h (setBit map r) r (record { some = some; inside = inside; bit = bit-same map r room }); low = lo; high = hi });
+      above = λ w l. below-same (suc w) _ _ (λ a i. elim (ℕ-discrete a r) [ yes e ↦ rw (e, le-ltb w (r + sizeAt heap r) l) (simp and-false) | no e ↦ rw (start-other h map r a e) ]);
+    }
+  where
+    h : ℕ
+    h = length heap
+
+-- Where every object on the map has t words, a covered stretch behind a free word has.
+pub covered-thick : (heap map : List ℕ) (lo e t : ℕ) → ((a : ℕ) → isStart (length heap) map a ≡ true → t ≤ sizeAt heap a) → Thick (covered heap map) lo e t
+covered-thick heap map lo e t sizes b l free begins w p q z =
+    let o = covered-owner heap map b begins in
+    let here : o .0 ≡ b =
+    elim (decLe b (o .0)) [ yes x ↦ omega arith | no x ↦ absurd (clash (owner-covers heap map (b - 1) (o .0) (record { start = o .1 .start; low = omega arith; high = omega arith })) free) ] in
+    owner-covers heap map w (o .0) (record { start = o .1 .start; low = omega arith; high = omega (arith, sizes (o .0) (o .1 .start)) })

@@ -1,0 +1,1 @@
+// Runs of free words: definitions and laws alone, with no code.
