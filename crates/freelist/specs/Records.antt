@@ -1,12 +1,11 @@
--- The list's words read back as intervals, the rule for a lent list, and a list written over another.
+-- The list's words read back as intervals, and the rule for a lent list.
 use Prim.Native.Nat.{ℕ, zero, suc, _+_, _*_}
 use mathlib.Core.Bool.{Bool, true, _&&_}
-use mathlib.Core.List.{List, [], _∷_, _++_}
-use lib.ListN.{length, getD, drop}
+use mathlib.Core.List.{List, [], _∷_}
+use lib.ListN.{getD, drop}
 use lib.Dec.{leb, ltb}
 use Rattle.layout.specs.declared.Interval.{Interval}
 use Rattle.layout.specs.Limits.{listRoom}
-use Rattle.layout.specs.Intervals.{shown}
 use Rattle.runs.specs.Lists.{end}
 
 -- The interval in record j: its start and its size.
@@ -26,7 +25,3 @@ inOrder t h from (i ∷ l) = ltb from (i .start) && leb t (i .size) && leb (end 
 -- A lent list passes refusal 3: its count is not above the room, and the records below it are in order from word 1 on.
 unfoldable pub validList : ℕ → ℕ → ℕ → List ℕ → Bool
 validList h t count list = leb count (listRoom h t) && inOrder t h 0 (records count list)
-
--- The words of a buffer after its first n records gave way to a list: the list's, zeros in records that it leaves, and the rest as before.
-unfoldable pub relisted : ℕ → List Interval → List ℕ → List ℕ
-relisted n l list = shown (2 * n) l ++ drop (length (shown (2 * n) l)) list

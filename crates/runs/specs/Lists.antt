@@ -48,9 +48,17 @@ pub data Ordered (k g e : ℕ) : ℕ → List Interval → Type 0 where
   none : {lo : ℕ} → Ordered k g e lo []
   one : {lo : ℕ} {i : Interval} {l : List Interval} → lo ≤ i .start → k ≤ i .size → end i ≤ e → Ordered k g e (end i + g) l → Ordered k g e lo (i ∷ l)
 
+-- The list with the interval at place j replaced by its first `left` words and by the `right` words from `next` on, each if it has k words.
+abbrev pub sides : ℕ → ℕ → ℕ → ℕ → List Interval → ℕ → List Interval
+sides k left next right l j = take j l ++ kept k (intervalAt l j .start) left (kept k next right (drop (suc j) l))
+
 -- The list with the s words from a on taken off the interval at place j; a side shorter than k is dropped.
 unfoldable pub cut : ℕ → ℕ → ℕ → List Interval → ℕ → List Interval
-cut k a s l j = take j l ++ kept k (intervalAt l j .start) (a - intervalAt l j .start) (kept k (a + s) (end (intervalAt l j) - (a + s)) (drop (suc j) l))
+cut k a s l j = sides k (a - intervalAt l j .start) (a + s) (end (intervalAt l j) - (a + s)) l j
+
+-- The list after an allot took the first s words of the interval at place j.
+abbrev pub withoutFront : ℕ → ℕ → List Interval → ℕ → List Interval
+withoutFront k s l j = cut k (intervalAt l j .start) s l j
 
 -- How many words the intervals have together.
 unfoldable pub listed : List Interval → ℕ
