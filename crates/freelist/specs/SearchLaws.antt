@@ -149,10 +149,10 @@ holder-left a s l lo hi sorted inside near low high = go (contains a s (interval
               | no other ↦ elim (decLe m lo) [ yes h ↦ before m (omega arith) | no h ↦ behind m (omega arith) o ]
             ]
 
--- The same of records.
-pub holding-left : (a s n : ℕ) (list : List ℕ) (lo hi : ℕ) {r : Interval} → r ≡ recordAt list lo → Sorted (records n list) → lo < n → hi ≤ suc lo → (0 < lo → recordAt list lo .start ≤ a) → (hi < n → a < recordAt list hi .start)
-    → holder a s (records n list) ≡ cond (contains a s r) (At lo) Nothing
-holding-left a s n list lo hi e sorted inside near low high =
+-- The same of records, with what the test of that record gave.
+pub holding-left : (a s n : ℕ) (list : List ℕ) (lo hi : ℕ) {r : Interval} {t : Bool} → r ≡ recordAt list lo → Sorted (records n list) → lo < n → hi ≤ suc lo → (0 < lo → recordAt list lo .start ≤ a) → (hi < n → a < recordAt list hi .start)
+    → contains a s r ≡ t → holder a s (records n list) ≡ cond t (At lo) Nothing
+holding-left a s n list lo hi e sorted inside near low high test =
     let same : length (records n list) ≡ n = length-records n list in
     let here : intervalAt (records n list) lo ≡ recordAt list lo = record-at n list lo inside in
-    rw (e ∙ sym here) (holder-left a s (records n list) lo hi sorted (omega arith) near (λ x. rw here (low x)) (λ x. rw (record-at n list hi (omega arith)) (high (omega arith))))
+    rw (← test, e ∙ sym here) (holder-left a s (records n list) lo hi sorted (omega arith) near (λ x. rw here (low x)) (λ x. rw (record-at n list hi (omega arith)) (high (omega arith))))

@@ -13,9 +13,16 @@ pub fn at(list: &[u32], j: usize) -> Interval
     ensures { λ r. ⌜ (r .start < 4294967296) × (r .size < 4294967296) ⌝ }
 {
     let at = 2 * j;
-    let start = list[at] as usize;
-    let size = list[at + 1] as usize;
+    let start = wide(list[at]);
+    let size = wide(list[at + 1]);
     Interval { start, size }
+}
+
+// A word as a number.
+fn wide(word: u32) -> usize
+    ensures { λ r. ⌜ (r ≡ word) × (r < 4294967296) ⌝ }
+{
+    word as usize
 }
 
 // Whether the count and the records below it pass refusal 3, in one pass that looks at nothing past the count.

@@ -162,11 +162,11 @@ module _ (n : ℕ) (list : List ℕ) (j : ℕ) {r : Interval} (e : r ≡ recordA
       cut-sides k (r .start) s 0 (r .size - s) h (omega arith) (omega arith) ∙ ap (λ (a : ℕ). cut k a s (records n list) j) (sym starts)
 
 -- Where no words are left in front the list does not grow.
-pub front-fits : (k next right n : ℕ) (list : List ℕ) (j : ℕ) → 1 ≤ k → j < n → length (sides k 0 next right (records n list) j) ≤ n
-front-fits k next right n list j some h =
+pub front-fits : (k next right n : ℕ) (list : List ℕ) (j : ℕ) → 1 ≤ k → j < n → 2 * n ≤ length list → 2 * length (sides k 0 next right (records n list) j) ≤ length list
+front-fits k next right n list j some h f =
+    let front : List Interval = take j (records n list) in
     let back : List Interval = drop (suc j) (records n list) in
-    let c : length (records n list) ≡ n = length-records n list in
-    rw (kept-short k (intervalAt (records n list) j .start) 0 (kept k next right back) some, length-append (take j (records n list)) (kept k next right back))
-    (kept-cases (λ m. length (take j (records n list)) + length m ≤ n) k next right back
-    (λ y. omega (arith, length-take-le j (records n list) (omega arith), length-drop (suc j) (records n list)))
-    (λ x. omega (arith, length-take-le j (records n list) (omega arith), length-drop (suc j) (records n list))))
+    let before : length front ≡ j = length-take-le j (records n list) (omega (arith, length-records n list)) in
+    let behind : suc j + length back ≡ n = omega (arith, length-records n list, length-drop (suc j) (records n list)) in
+    rw (kept-short k (intervalAt (records n list) j .start) 0 (kept k next right back) some, length-append front (kept k next right back))
+    (kept-cases (λ m. 2 * (length front + length m) ≤ length list) k next right back (λ y. omega arith) (λ x. omega arith))

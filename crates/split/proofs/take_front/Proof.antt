@@ -48,7 +48,10 @@ cast-put-sides-2 : tie.Need-cast-put-sides-2
 cast-put-sides-2 c = search needs
 
 put-sides-requires : tie.Need-put-sides-requires
-put-sides-requires c κs = let t = begin (c .before) .args in ((there (begin (c .before)), omega arith), omega (arith, front-fits (t .keep) (c .before .at .result .start + t .s) (c .before .at .result .size - t .s) (t .count) (t .list .now) (t .j) (omega arith) (there (begin (c .before)))))
+put-sides-requires c κs =
+    let t = begin (c .before) .args in
+    let h = there (begin (c .before)) in
+    ((h, omega arith), front-fits (t .keep) _ _ (t .count) (t .list .now) (t .j) (omega arith) h (omega arith))
 
 same-length : tie.Need-same-length
 same-length c = search needs

@@ -1,6 +1,4 @@
 -- `records::at`: the two words are read as they stand.
-use Prim.Native.Nat.{_+_, _*_}
-use mathlib.Core.Path.{refl}
 use native.Mathlib.Omega.{arith}
 use borrow.Author.Needs.{needs}
 use Rattle.freelist.proofs.records.at.Statement.{statement}
@@ -9,40 +7,40 @@ use Rattle.freelist.proofs.records.at.Tie as tie
 mul-at : tie.Need-mul-at
 mul-at c = search needs
 
-mul-start : tie.Need-mul-start
-mul-start c = search needs
+mul-wide : tie.Need-mul-wide
+mul-wide c = search needs
 
-shared-slice-read-start : tie.Need-shared-slice-read-start
-shared-slice-read-start c = search needs
+shared-slice-read-wide : tie.Need-shared-slice-read-wide
+shared-slice-read-wide c = search needs
 
-cast-start : tie.Need-cast-start
-cast-start c = omega (arith, c .shared-slice-known .given (2 * c .before .args .j))
+wide-requires : tie.Need-wide-requires
+wide-requires c κs = search needs
 
-add-size : tie.Need-add-size
-add-size c = search needs
+add-wide : tie.Need-add-wide
+add-wide c = search needs
 
-mul-size : tie.Need-mul-size
-mul-size c = search needs
+mul-wide-2 : tie.Need-mul-wide-2
+mul-wide-2 c = search needs
 
-shared-slice-read-size : tie.Need-shared-slice-read-size
-shared-slice-read-size c = search needs
+shared-slice-read-wide-2 : tie.Need-shared-slice-read-wide-2
+shared-slice-read-wide-2 c = search needs
 
-cast-size : tie.Need-cast-size
-cast-size c = omega (arith, c .shared-slice-known2 .given (2 * c .before .before .args .j + 1))
+wide-requires-2 : tie.Need-wide-requires-2
+wide-requires-2 c κs = search needs
 
 returns : tie.Need-returns
-returns c = let t = c .before .before .args in (refl, (omega (arith, c .before .shared-slice-known .given (2 * t .j)), omega (arith, c .shared-slice-known2 .given (2 * t .j + 1))))
+returns c = (λ i. record { start = c .before .before .wide .ensures .0 i; size = c .wide2 .ensures .0 i }, (omega arith, omega arith))
 
 pub at-spec : {M : Type 1} → statement M
 at-spec =
     tie.close
     (tie.spec
     mul-at
-    mul-start
-    shared-slice-read-start
-    cast-start
-    add-size
-    mul-size
-    shared-slice-read-size
-    cast-size
+    mul-wide
+    shared-slice-read-wide
+    wide-requires
+    add-wide
+    mul-wide-2
+    shared-slice-read-wide-2
+    wide-requires-2
     returns)

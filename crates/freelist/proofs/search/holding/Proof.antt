@@ -1,6 +1,6 @@
 -- `search::holding`: record lo starts at a or before it, and record hi past a.
 use Prim.Native.Nat.{ℕ, _-_, _≤_, _<_}
-use mathlib.Core.Bool.{cond}
+use mathlib.Core.Bool.{Bool, cond}
 use mathlib.Core.Path.{_≡_, sym, ap, _∙_}
 use native.Mathlib.Omega.{arith}
 use borrow.Author.Needs.{needs}
@@ -62,18 +62,18 @@ add-if3-2 : tie.Need-add-if3-2 Inv-loop μ-loop
 add-if3-2 c = search needs
 
 -- The record that halving has come to is the only one left to look at.
-left : (c : tie.After-at2 Inv-loop μ-loop) → let t = c .before .before .before .before .before .args in
-    holder (t .a) (t .s) (records (t .count) (t .list .now)) ≡ cond (contains (t .a) (t .s) (c .at2 .result)) (At (c .before .before .loop .lo)) Nothing
+left : {test : Bool} (c : tie.After-at2 Inv-loop μ-loop) → let t = c .before .before .before .before .before .args in contains (t .a) (t .s) (c .at2 .result) ≡ test
+    → holder (t .a) (t .s) (records (t .count) (t .list .now)) ≡ cond test (At (c .before .before .loop .lo)) Nothing
 left c =
     let t = c .before .before .before .before .before .args in
     let h = c .before .before .loop in
     holding-left (t .a) (t .s) (t .count) (t .list .now) (h .lo) (h .hi) (c .at2 .ensures .0) (c .before .before .before .before .before .pre .2) (omega arith) (omega arith) (h .inv .2) (h .inv .3)
 
 returns-2 : tie.Need-returns-2 Inv-loop μ-loop
-returns-2 c = sym (left (c .before) ∙ rw (c .if3 .taken))
+returns-2 c = sym (left (c .before) (c .if3 .taken))
 
 returns-3 : tie.Need-returns-3 Inv-loop μ-loop
-returns-3 c = sym (left (c .before) ∙ rw (c .if3 .left))
+returns-3 c = sym (left (c .before) (c .if3 .left))
 
 pub holding-spec : {M : Type 1} → statement M
 holding-spec =
