@@ -97,3 +97,7 @@ ordered-count {t} {h} {l} some o = (le-div-iff-mul-le some) .1 (go (length l) (o
 -- With t words between neighbours it has about half as many.
 pub apart-count : {t h : ℕ} {l : List Interval} → 1 ≤ t → Ordered t t h 1 l → length l ≤ (h - 1 + t) / (2 * t)
 apart-count {t} {h} {l} some o = (le-div-iff-mul-le {k = 2 * t} (omega arith)) .1 (omega (arith, ordered-room (omega arith) o))
+
+-- A cut of an ordered list has room where the list has.
+pub cut-count : {t h a s : ℕ} {l : List Interval} → 1 ≤ t → 1 ≤ s → Ordered t 1 h 1 l → (j : ℕ) → In l a s j → length (cut t a s l j) ≤ listRoom h t
+cut-count some size o j i = ordered-count some (ordered-cut size o j i)

@@ -1,11 +1,14 @@
 -- `take_front`: nothing is left in front, so that the list does not grow.
 use Prim.Native.Nat.{ℕ, _+_, _-_, _≤_, _<_}
-use mathlib.Core.Path.{_≡_, ap}
+use mathlib.Core.Path.{_∙_, ap, _≡_}
+use mathlib.Core.List.{List}
 use native.Mathlib.Omega.{arith}
+use lib.ListN.{length}
 use borrow.Author.Needs.{needs}
 use Rattle.freelist.specs.Records.{records}
 use Rattle.layout.specs.declared.Interval.{Interval}
 use Rattle.runs.specs.Lists.{intervalAt, end, sides, withoutFront}
+use Rattle.split.specs.Relisted.{relisted}
 use Rattle.split.specs.SidesLaws.{read-at, in-place, in-read, front-sides, front-fits}
 use Rattle.split.proofs.take_front.Statement.{statement}
 use Rattle.split.proofs.take_front.Tie as tie
@@ -57,7 +60,11 @@ same-length : tie.Need-same-length
 same-length c = search needs
 
 returns : tie.Need-returns
-returns c = rw (same (c .before .before .before .before)) at (c .before .before .put-sides .ensures)
+returns c =
+    let t = begin (c .before .before .before .before) .args in
+    let e = same (c .before .before .before .before) in
+    let put = c .before .before .put-sides .ensures in
+    (put .0 ∙ ap length e, put .1 ∙ ap (λ (l : List Interval). relisted (t .count) l (t .list .now)) e)
 
 pub take-front-spec : {M : Type 1} → statement M
 take-front-spec =
