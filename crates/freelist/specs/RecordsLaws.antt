@@ -111,7 +111,7 @@ order-complete {t} {h} from e (one {i = i} a b c o) =
 pub order-ordered : (t h : ℕ) (l : List Interval) → (inOrder t h 0 l ≡ true) ↔ Ordered t 1 h 1 l
 order-ordered t h l = (order-sound t h 0 l, λ o. order-complete 0 refl o)
 
--- A list that passes has no more records than there is room for, and its intervals are in order.
-pub valid-ordered : (h t n : ℕ) (list : List ℕ) → validList h t n list ≡ true → (n ≤ listRoom h t) × Ordered t 1 h 1 (records n list)
-unfolding validList
-valid-ordered h t n list e = let x = and-eq-true-iff _ _ .0 e in (leb-true n (listRoom h t) (x .0), order-ordered t h (records n list) .0 (x .1))
+-- A list that passes has its records in the needed part, and its intervals are in order.
+pub valid-ordered : (h t n : ℕ) (list : List ℕ) → validList h t n list ≡ true → (2 * n ≤ listWords h t) × Ordered t 1 h 1 (records n list)
+unfolding validList listWords
+valid-ordered h t n list e = let x = and-eq-true-iff _ _ .0 e in (omega (arith, leb-true n (listRoom h t) (x .0)), order-ordered t h (records n list) .0 (x .1))

@@ -77,21 +77,25 @@ module _ (test : Interval → Bool) (n : ℕ) (list : List ℕ) (i : ℕ) where
       let next : i + 1 ≡ suc i = omega arith in
       rw (records-next n list i l, firstFrom, e, next)
 
--- The chosen interval has the words asked for.
-pub fitting-in : (s : ℕ) (l : List Interval) (j : ℕ) → fitting s l ≡ At j → In l (intervalAt l j .start) s j
-unfolding fitting
-fitting-in s l j e = go (subst (λ (f : Found). Tells (fits s) 0 l f) e (first-tells (fits s) 0 l))
-  where
-    go : Tells (fits s) 0 l (At j) → In l (intervalAt l j .start) s j
-    go (n, p, h, q, b) =
-        let here : n ≡ j = omega arith in
-        let size : s ≤ intervalAt l j .size = subst (λ (t : ℕ). s ≤ intervalAt l t .size) here (leb-true s (intervalAt l n .size) q) in
-        record { there = omega arith; low = omega arith; high = omega arith }
+-- What the choice for an allot of s words says of the list.
+module _ (s : ℕ) (l : List Interval) {f : Found} (e : f ≡ fitting s l) where
+  chosen : Tells (fits s) 0 l f
+  unfolding fitting
+  chosen = rw e (first-tells (fits s) 0 l)
 
--- None is chosen only if no listed interval has them.
-pub fitting-none : (s : ℕ) (l : List Interval) → fitting s l ≡ Nothing → (j : ℕ) → j < length l → intervalAt l j .size < s
-unfolding fitting
-fitting-none s l e j h = leb-false s (intervalAt l j .size) (subst (λ (f : Found). Tells (fits s) 0 l f) e (first-tells (fits s) 0 l) j h)
+  -- The chosen interval has the words.
+  pub fitting-in : (j : ℕ) → f ≡ At j → In l (intervalAt l j .start) s j
+  fitting-in j p = go (subst (λ (g : Found). Tells (fits s) 0 l g) p chosen)
+    where
+      go : Tells (fits s) 0 l (At j) → In l (intervalAt l j .start) s j
+      go (n, p, h, q, b) =
+          let here : n ≡ j = omega arith in
+          let size : s ≤ intervalAt l j .size = subst (λ (t : ℕ). s ≤ intervalAt l t .size) here (leb-true s (intervalAt l n .size) q) in
+          record { there = omega arith; low = omega arith; high = omega arith }
+
+  -- None is chosen only if no listed interval has them.
+  pub fitting-none : f ≡ Nothing → (j : ℕ) → j < length l → intervalAt l j .size < s
+  fitting-none p j h = leb-false s (intervalAt l j .size) (subst (λ (g : Found). Tells (fits s) 0 l g) p chosen j h)
 
 -- What an interval contains, by its two ends.
 contains-in : (a s : ℕ) (i : Interval) → contains a s i ≡ true → (i .start ≤ a) × (a + s ≤ end i)
@@ -106,21 +110,25 @@ before-contains a s i p = rw (lt-leb (a + s) (end i) p) (simp and-false)
 behind-contains : (a s : ℕ) (i : Interval) → a < i .start → contains a s i ≡ false
 behind-contains a s i p = rw (lt-leb (i .start) a p)
 
--- The interval found contains the words.
-pub holder-in : (a s : ℕ) (l : List Interval) (j : ℕ) → holder a s l ≡ At j → In l a s j
-unfolding holder
-holder-in a s l j e = go (subst (λ (f : Found). Tells (contains a s) 0 l f) e (first-tells (contains a s) 0 l))
-  where
-    go : Tells (contains a s) 0 l (At j) → In l a s j
-    go (n, p, h, q, b) =
-        let here : n ≡ j = omega arith in
-        let x = contains-in a s (intervalAt l n) q in
-        subst (λ (t : ℕ). In l a s t) here (record { there = h; low = x .0; high = x .1 })
+-- What the search for the s words from a on says of the list.
+module _ (a s : ℕ) (l : List Interval) {f : Found} (e : f ≡ holder a s l) where
+  met : Tells (contains a s) 0 l f
+  unfolding holder
+  met = rw e (first-tells (contains a s) 0 l)
 
--- None is found only if none does.
-pub holder-none : (a s : ℕ) (l : List Interval) → holder a s l ≡ Nothing → Holds l a s → ⊥
-unfolding holder
-holder-none a s l e (j, i) = clash (in-contains a s (intervalAt l j) (i .low) (i .high)) (subst (λ (f : Found). Tells (contains a s) 0 l f) e (first-tells (contains a s) 0 l) j (i .there))
+  -- The interval found contains them.
+  pub holder-in : (j : ℕ) → f ≡ At j → In l a s j
+  holder-in j p = go (subst (λ (g : Found). Tells (contains a s) 0 l g) p met)
+    where
+      go : Tells (contains a s) 0 l (At j) → In l a s j
+      go (n, p, h, q, b) =
+          let here : n ≡ j = omega arith in
+          let x = contains-in a s (intervalAt l n) q in
+          subst (λ (t : ℕ). In l a s t) here (record { there = h; low = x .0; high = x .1 })
+
+  -- None is found only if none contains them.
+  pub holder-none : f ≡ Nothing → Holds l a s → ⊥
+  holder-none p (j, i) = clash (in-contains a s (intervalAt l j) (i .low) (i .high)) (subst (λ (g : Found). Tells (contains a s) 0 l g) p met j (i .there))
 
 -- Halving has come to one place: intervals before it end below a, those behind it start above a, and it alone is left to look at.
 holder-left : (a s : ℕ) (l : List Interval) (lo hi : ℕ) → Sorted l → lo < length l → hi ≤ suc lo → (0 < lo → intervalAt l lo .start ≤ a) → (hi < length l → a < intervalAt l hi .start)

@@ -8,7 +8,7 @@ use native.Mathlib.Omega.{arith}
 use native.Mathlib.Decide.{decLe}
 use lib.ListN.{length}
 use Rattle.layout.specs.declared.Interval.{Interval}
-use Rattle.layout.specs.Limits.{stackWords, listRoom}
+use Rattle.layout.specs.Limits.{stackWords, listRoom, listWords}
 use Rattle.runs.specs.Runs.{kept, runs}
 use Rattle.runs.specs.Covers.{Thick}
 use Rattle.runs.specs.Lists.{intervalAt, end, In, Ordered, none, one, cut}
@@ -54,6 +54,12 @@ ordered-first none j q = absurd (omega arith)
 ordered-first (one a b c o) zero q = a
 ordered-first (one {i = i} a b c o) (suc j) q = omega (arith, ordered-first o j (omega arith))
 
+-- Every interval ends at the high end or before it.
+pub ordered-last : {k g e lo : ℕ} {l : List Interval} → Ordered k g e lo l → (j : ℕ) → j < length l → end (intervalAt l j) ≤ e
+ordered-last none j q = absurd (omega arith)
+ordered-last (one a b c o) zero q = c
+ordered-last (one a b c o) (suc j) q = ordered-last o j (omega arith)
+
 -- An interval behind another starts past its end, with g words between.
 pub ordered-apart : {k g e lo : ℕ} {l : List Interval} → Ordered k g e lo l → (i j : ℕ) → i < j → j < length l → end (intervalAt l i) + g ≤ intervalAt l j .start
 ordered-apart none i j p q = absurd (omega arith)
@@ -98,6 +104,7 @@ ordered-count {t} {h} {l} some o = (le-div-iff-mul-le some) .1 (go (length l) (o
 pub apart-count : {t h : ℕ} {l : List Interval} → 1 ≤ t → Ordered t t h 1 l → length l ≤ (h - 1 + t) / (2 * t)
 apart-count {t} {h} {l} some o = (le-div-iff-mul-le {k = 2 * t} (omega arith)) .1 (omega (arith, ordered-room (omega arith) o))
 
--- A cut of an ordered list has room where the list has.
-pub cut-count : {t h a s : ℕ} {l : List Interval} → 1 ≤ t → 1 ≤ s → Ordered t 1 h 1 l → (j : ℕ) → In l a s j → length (cut t a s l j) ≤ listRoom h t
-cut-count some size o j i = ordered-count some (ordered-cut size o j i)
+-- A cut of an ordered list fits in the needed part.
+pub cut-fits : {t h a s : ℕ} {l : List Interval} → 1 ≤ t → 1 ≤ s → Ordered t 1 h 1 l → (j : ℕ) → In l a s j → 2 * length (cut t a s l j) ≤ listWords h t
+unfolding listWords
+cut-fits some size o j i = omega (arith, ordered-count some (ordered-cut size o j i))

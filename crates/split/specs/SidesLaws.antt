@@ -1,6 +1,6 @@
 -- A record replaced by its sides: the four cases of a cut, as stores.
 use Prim.Native.Nat.{ℕ, zero, suc, _+_, _-_, _*_, _≤_, _<_}
-use mathlib.Core.Path.{_≡_, sym, ap, _∙_}
+use mathlib.Core.Path.{_≡_, sym, ap, subst, _∙_}
 use mathlib.Core.List.{List, [], _∷_, _++_, append-assoc}
 use native.Mathlib.Omega.{arith}
 use lib.ListN.{length, take, drop, set, replicate, length-append, length-drop}
@@ -77,8 +77,12 @@ module _ {n : ℕ} {list : List ℕ} {j : ℕ} {front back rest : List ℕ} {u v
       rw (w .same, take-at front (u ∷ v ∷ (back ++ rest)) (2 * j) (w .before), drops front (u ∷ v ∷ (back ++ rest)) 2 (2 * j + 2) (omega arith), drops front (u ∷ v ∷ (back ++ rest)) (suc (suc (length back))) (2 * j + k + 2) (omega arith), all, take-append-seam back rest, drop-append-seam back rest)
 
 -- The words and the count of a list that took the place of n records.
-abbrev Gave : ℕ → List ℕ → List Interval → ℕ → List ℕ → Type 0
+abbrev pub Gave : ℕ → List ℕ → List Interval → ℕ → List ℕ → Type 0
 Gave n list l count list′ = (count ≡ length l) × (list′ ≡ relisted n l list)
+
+-- They are those of any equal list.
+pub gave-same : (n : ℕ) (list : List ℕ) {l m : List Interval} {count : ℕ} {list′ : List ℕ} → l ≡ m → Gave n list l count list′ → Gave n list m count list′
+gave-same n list {count = count} {list′ = list′} e g = subst (λ (l : List Interval). Gave n list l count list′) e g
 
 gave-less : (n : ℕ) (list : List ℕ) {count : ℕ} {list′ : List ℕ} (k : ℕ) (l m : List Interval) → length l + length m ≡ count → count + k ≡ n → list′ ≡ flat l ++ (flat m ++ (replicate (2 * k) 0 ++ drop (2 * n) list)) → Gave n list (l ++ m) count list′
 gave-less n list k l m h o t =

@@ -5,7 +5,7 @@ ghost use lib.ListN.{length};
 
 // A line: the number in each place, where places are parted by a space, and where the line ends.
 pub struct Line {
-    pub place: [usize; 5],
+    pub place: [usize; 32],
     pub end: usize,
 }
 
@@ -25,13 +25,13 @@ fn more(n: usize, byte: u8) -> usize {
 
 // The place that a byte stands in: a space begins the next.
 fn next(k: usize, byte: u8) -> usize
-    requires { ⌜ k ≤ 4 ⌝ }
-    ensures { λ r. ⌜ r ≤ 4 ⌝ }
+    requires { ⌜ k ≤ 31 ⌝ }
+    ensures { λ r. ⌜ r ≤ 31 ⌝ }
 {
     if byte != b' ' {
         return k;
     }
-    if k == 4 {
+    if k == 31 {
         return k;
     }
     k + 1
@@ -42,7 +42,7 @@ pub fn line_at(text: &[u8], at: usize) -> Line
     requires { ⌜ at < length (now text) ⌝ }
     ensures { λ r. ⌜ (at ≤ r .end) × (r .end ≤ length (now (text .entry))) ⌝ }
 {
-    let mut place = [0usize; 5];
+    let mut place = [0usize; 32];
     let mut k = 0;
     let mut end = at;
     while end < text.len() {
@@ -57,10 +57,14 @@ pub fn line_at(text: &[u8], at: usize) -> Line
     Line { place, end }
 }
 
-// Prints " gave", the numbers that came, and the end of the line.
-pub fn print(came: &[usize]) {
+// Prints " gave" and the numbers that came.
+pub fn gave(came: &[usize]) {
     io::write_all(STDOUT_FILENO, b" gave");
     numbers(came, b" ");
+}
+
+// Ends a line.
+pub fn end() {
     io::write_all(STDOUT_FILENO, b"\n");
 }
 
@@ -70,4 +74,19 @@ fn numbers(came: &[usize], space: &[u8]) {
         io::write_all(STDOUT_FILENO, space);
         io::print_decimal(STDOUT_FILENO, came[i] as u64);
     }
+}
+
+// Prints the words of a list, each behind a space.
+pub fn words(list: &[u32], space: &[u8]) {
+    for i in 0..list.len() {
+        io::write_all(STDOUT_FILENO, space);
+        io::print_decimal(STDOUT_FILENO, wide(list[i]) as u64);
+    }
+}
+
+// A word as a number.
+pub fn wide(word: u32) -> usize
+    ensures { λ r. ⌜ r < 4294967296 ⌝ }
+{
+    word as usize
 }

@@ -1,14 +1,15 @@
-// The trials: a line that begins with f asks for room figures, any other for a set-up.
+// The trials: the first letter of a line says which. r asks for room figures, s for a set-up, any other is for the list.
 use crate::buffer;
 use crate::lines;
+use crate::lists;
 use layout::Rooms;
 use layout::State;
 use libc::STDOUT_FILENO;
 
 // Room figures. Given: words, keep. Came: the words needed of map, stack and list.
-fn figures(words: usize, keep: usize) {
+fn rooms(words: usize, keep: usize) {
     let rooms = Rooms::of(words, keep);
-    lines::print(&[rooms.map, rooms.stack, rooms.list]);
+    lines::gave(&[rooms.map, rooms.stack, rooms.list]);
 }
 
 // Set-up in buffers full of junk. Came: code; words, keep and count of the state; how many words of map and of list were
@@ -29,11 +30,11 @@ fn set_up(heap: &[u32], keep: usize, map: &mut [u32], list: &mut [u32]) {
         over_map,
         over_list,
     ];
-    lines::print(&came);
+    lines::gave(&came);
 }
 
 // The same, in parts of the buffers as long as the line says. A line that asks for more gives nothing.
-fn set_up_in(place: [usize; 5], heap: &[u32], map: &mut [u32], list: &mut [u32]) {
+fn set_up_in(place: [usize; 32], heap: &[u32], map: &mut [u32], list: &mut [u32]) {
     let h = place[1];
     let m = place[3];
     let n = place[4];
@@ -50,14 +51,18 @@ fn set_up_in(place: [usize; 5], heap: &[u32], map: &mut [u32], list: &mut [u32])
 }
 
 // One trial.
-fn trial(kind: u8, place: [usize; 5]) {
-    if kind == b'f' {
-        figures(place[1], place[2]);
+fn trial(kind: u8, place: [usize; 32]) {
+    if kind == b'r' {
+        rooms(place[1], place[2]);
+        return;
+    }
+    let mut list = buffer::long();
+    if kind != b's' {
+        lists::trial(kind, place, &mut list);
         return;
     }
     let heap = buffer::long();
     let mut map = buffer::long();
-    let mut list = buffer::long();
     set_up_in(place, &heap, &mut map, &mut list);
 }
 
@@ -70,6 +75,7 @@ pub fn all(text: &[u8]) {
         let end = line.end;
         io::write_all(STDOUT_FILENO, &text[at..end]);
         trial(text[at], place);
+        lines::end();
         at = end + 1;
     }
 }

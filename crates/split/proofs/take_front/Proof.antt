@@ -1,15 +1,12 @@
 -- `take_front`: nothing is left in front, so that the list does not grow.
 use Prim.Native.Nat.{ℕ, _+_, _-_, _≤_, _<_}
-use mathlib.Core.Path.{_∙_, ap, _≡_}
-use mathlib.Core.List.{List}
+use mathlib.Core.Path.{ap, _≡_}
 use native.Mathlib.Omega.{arith}
-use lib.ListN.{length}
 use borrow.Author.Needs.{needs}
 use Rattle.freelist.specs.Records.{records}
 use Rattle.layout.specs.declared.Interval.{Interval}
 use Rattle.runs.specs.Lists.{intervalAt, end, sides, withoutFront}
-use Rattle.split.specs.Relisted.{relisted}
-use Rattle.split.specs.SidesLaws.{read-at, in-place, in-read, front-sides, front-fits}
+use Rattle.split.specs.SidesLaws.{gave-same, read-at, in-place, in-read, front-sides, front-fits}
 use Rattle.split.proofs.take_front.Statement.{statement}
 use Rattle.split.proofs.take_front.Tie as tie
 
@@ -62,9 +59,7 @@ same-length c = search needs
 returns : tie.Need-returns
 returns c =
     let t = begin (c .before .before .before .before) .args in
-    let e = same (c .before .before .before .before) in
-    let put = c .before .before .put-sides .ensures in
-    (put .0 ∙ ap length e, put .1 ∙ ap (λ (l : List Interval). relisted (t .count) l (t .list .now)) e)
+    gave-same (t .count) (t .list .now) (same (c .before .before .before .before)) (c .before .before .put-sides .ensures)
 
 pub take-front-spec : {M : Type 1} → statement M
 take-front-spec =

@@ -1,15 +1,11 @@
 -- `take_off`: the sides worked out are those of the cut.
 use Prim.Native.Nat.{ℕ, _+_, _-_, _≤_, _<_}
-use mathlib.Core.Path.{_∙_, ap, _≡_}
-use mathlib.Core.List.{List}
+use mathlib.Core.Path.{_≡_}
 use native.Mathlib.Omega.{arith}
-use lib.ListN.{length}
 use borrow.Author.Needs.{needs}
 use Rattle.freelist.specs.Records.{records}
-use Rattle.layout.specs.declared.Interval.{Interval}
 use Rattle.runs.specs.Lists.{end, sides, cut}
-use Rattle.split.specs.Relisted.{relisted}
-use Rattle.split.specs.SidesLaws.{cut-sides, in-place, in-read}
+use Rattle.split.specs.SidesLaws.{gave-same, cut-sides, in-place, in-read}
 use Rattle.split.proofs.take_off.Statement.{statement}
 use Rattle.split.proofs.take_off.Tie as tie
 
@@ -66,9 +62,7 @@ same-length c = search needs
 returns : tie.Need-returns
 returns c =
     let t = begin (c .before .before .before .before) .args in
-    let e = same (c .before .before .before .before) in
-    let put = c .before .before .put-sides .ensures in
-    (put .0 ∙ ap length e, put .1 ∙ ap (λ (l : List Interval). relisted (t .count) l (t .list .now)) e)
+    gave-same (t .count) (t .list .now) (same (c .before .before .before .before)) (c .before .before .put-sides .ensures)
 
 pub take-off-spec : {M : Type 1} → statement M
 take-off-spec =

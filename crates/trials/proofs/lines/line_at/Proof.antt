@@ -6,7 +6,7 @@ use Rattle.trials.proofs.lines.line_at.Statement.{statement}
 use Rattle.trials.proofs.lines.line_at.Tie as tie
 
 abbrev Inv-loop : tie.InvT-loop
-Inv-loop text at place₀ k₀ end₀ place k end = (at ≤ end) × (end ≤ length text) × (k ≤ 4)
+Inv-loop text at place₀ k₀ end₀ place k end = (at ≤ end) × (end ≤ length text) × (k ≤ 31)
 
 abbrev μ-loop : tie.MeasureT-loop
 μ-loop text at place₀ k₀ end₀ place k end = length text - end

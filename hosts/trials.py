@@ -1,0 +1,264 @@
+#!/usr/bin/env python3
+"""Writes the lines of the trials and the answers expected of them: crates/trials/stdin and stdout.
+
+The answers are worked out here from the rules alone, and not the way the proved code works. The free list after words
+were taken off is found by a sweep over a bitmap of the whole heap; the record that holds words, by looking at every one.
+The gate does not run this: it compares what the proved program prints with the written answers.
+"""
+import os
+import random
+
+MAX_WORDS, MAX_KEEP = 65536, 65535
+lines = []
+
+
+def say(*line, gave=()):
+    lines.append((" ".join(map(str, line)), "".join(f" {n}" for n in gave), bool(gave)))
+
+
+def rooms(h, t):
+    if not (1 <= h <= MAX_WORDS and 1 <= t <= MAX_KEEP):
+        return 0, 0, 0
+    most = (h - 1) // t
+    return -(-h // 32), most, 2 * most
+
+
+def set_up(h, t, m, n):
+    need_map, _, need_list = rooms(h, t)
+    if need_map == 0:
+        return 1, 0, 0, 0, 0, 0
+    if m < need_map or n < need_list:
+        return 2, 0, 0, 0, 0, 0
+    return 0, h, t, int(h - 1 >= t), need_map, need_list
+
+
+def is_valid(h, t, count, records):
+    if count > (h - 1) // t:
+        return False
+    end = 0
+    for start, size in records[:count]:
+        if size < t or start == 0 or start + size > h or start <= end:
+            return False
+        end = start + size
+    return True
+
+
+def figures(records):
+    sizes = [size for _, size in records]
+    listed, largest = sum(sizes), max(sizes, default=0)
+    return listed, largest, 1000 - 1000 * largest // listed if listed else 0
+
+
+def sweep(free, t):
+    """The longest runs of free words with t words or more; free[0] is no word of a run."""
+    runs, start = [], None
+    for w in range(1, len(free) + 1):
+        if w < len(free) and free[w]:
+            if start is None:
+                start = w
+        elif start is not None:
+            if w - start >= t:
+                runs.append((start, w - start))
+            start = None
+    return runs
+
+
+def flat(records):
+    return [n for record in records for n in record]
+
+
+def bitmap(h, records):
+    free = [False] * h
+    for start, size in records:
+        for w in range(start, start + size):
+            free[w] = True
+    return free
+
+
+def after(h, t, records, words, a, s):
+    """The new count and all words of the list's part, once the s words from a on are no longer free."""
+    free = bitmap(h, records)
+    for w in range(a, a + s):
+        free[w] = False
+    left = sweep(free, t)
+    new = flat(left)
+    new += [0] * (2 * len(records) - len(new))
+    return len(left), new + words[len(new):]
+
+
+def total(words):
+    n = 0
+    for word in words:
+        n = (31 * n + word) % 1000003
+    return n
+
+
+def report(place, count, words):
+    return [1, place, count, total(words)] + (words if len(words) <= 40 else [])
+
+
+def part(h, t, count, records):
+    """The needed part of the list as a line gives it: what it does not give is 9."""
+    return (flat(records)[: 2 * count] + [9] * rooms(h, t)[2])[: rooms(h, t)[2]]
+
+
+def try_list(h, t, records, count=None):
+    count = len(records) if count is None else count
+    ok = is_valid(h, t, count, records)
+    say("list", h, t, 0, 0, count, *flat(records), gave=[1, *figures(records[:count])] if ok else [0])
+
+
+def try_off(h, t, a, s, records):
+    count = len(records)
+    assert is_valid(h, t, count, records)
+    held = [j for j, (start, size) in enumerate(records) if start <= a and a + s <= start + size]
+    gave = [1, count]
+    if held:
+        gave = report(held[0], *after(h, t, records, part(h, t, count, records), a, s))
+    say("off", h, t, a, s, count, *flat(records), gave=gave)
+
+
+def try_front(h, t, s, records):
+    count = len(records)
+    assert is_valid(h, t, count, records)
+    fit = [j for j, (_, size) in enumerate(records) if size >= s]
+    gave = [1, count]
+    if fit:
+        gave = report(fit[0], *after(h, t, records, part(h, t, count, records), records[fit[0]][0], s))
+    say("front", h, t, 0, s, count, *flat(records), gave=gave)
+
+
+def try_comb(h, a, s):
+    records = []
+    while 1 + 4 * len(records) + 3 <= h:
+        records.append((1 + 4 * len(records), 3))
+    words = flat(records) + [7] * (rooms(h, 1)[2] - 2 * len(records))
+    held = [j for j, (start, size) in enumerate(records) if start <= a and a + s <= start + size]
+    gave = [1, len(records)]
+    if held:
+        gave = report(held[0], *after(h, 1, records, words, a, s))
+    say("comb", h, 1, a, s, gave=gave)
+
+
+def room_lines():
+    for h, t in [(1, 1), (2, 1), (2, 2), (16, 2), (32, 2), (33, 2), (65535, 65535), (65536, 65535), (65536, 1),
+                 (0, 1), (65537, 1), (16, 0), (16, 65536), (2**32 + 16, 2)]:
+        say("rooms", h, t, gave=rooms(h, t))
+
+
+def set_up_lines():
+    for line in [(1, 1, 3, 3), (2, 1, 3, 5), (2, 2, 3, 5), (16, 2, 1, 14), (16, 2, 3, 17), (32, 2, 2, 31), (33, 2, 3, 33),
+                 (4096, 7, 130, 1171), (65535, 65535, 2050, 3), (65536, 65535, 2050, 3), (65536, 2, 2048, 65534),
+                 (65536, 2, 2050, 65537), (65536, 1, 2048, 131070), (65536, 1, 2050, 131073), (0, 1, 3, 3),
+                 (65537, 2, 2050, 65537), (16, 0, 3, 17), (16, 65536, 3, 17), (16, 2**32 + 2, 3, 17), (0, 0, 0, 0),
+                 (1, 1, 0, 3), (33, 2, 1, 33), (16, 2, 1, 13), (65536, 2, 2047, 65537), (65536, 2, 2050, 65533),
+                 (65536, 1, 2047, 131073), (65536, 1, 2050, 131069)]:
+        say("set-up", *line, gave=set_up(*line))
+
+
+def list_lines():
+    try_list(16, 2, [(4, 4), (10, 6)])
+    try_list(16, 2, [])
+    try_list(1, 1, [])
+    try_list(2, 1, [(1, 1)])
+    try_list(4, 1, [(1, 1), (3, 1)])
+    try_list(8, 3, [(1, 3), (5, 3)])  # full: as many records as there is room for
+    try_list(18, 5, [(1, 5), (7, 5), (13, 5)])
+    try_list(18, 5, [(1, 5), (7, 5), (13, 6)])  # ends above the heap
+    try_list(18, 5, [(1, 5), (7, 5), (13, 4)])  # shorter than the keep length
+    try_list(18, 5, [(1, 5), (6, 5)])  # touching
+    try_list(18, 5, [(1, 5), (4, 5)])  # overlapping
+    try_list(18, 5, [(7, 5), (1, 5)])  # not by address
+    try_list(18, 5, [(1, 5), (1, 5)])
+    try_list(18, 5, [(0, 5)])
+    try_list(18, 5, [(0, 18)])
+    try_list(18, 5, [(1, 17)])
+    try_list(18, 5, [(1, 18)])
+    try_list(18, 5, [(1, 5), (7, 5), (13, 5), (3, 3)], count=3)  # what is past the count is not looked at
+    try_list(18, 5, [(1, 5), (7, 5), (13, 5)], count=4)
+    try_list(18, 5, [(1, 5)], count=2**32)
+    try_list(18, 5, [(1, 5)], count=2**40 + 1)
+    try_list(64, 2, [(36, 2**32 - 4)])  # end 32 if it were cut at 32 bits
+    try_list(64, 2, [(2**32 - 4, 36)])
+    try_list(64, 2, [(2**32 - 1, 2**32 - 1)])
+    try_list(64, 2, [(1, 2), (2**32 - 1, 2)])
+    try_list(65536, 1, [(1, 65535)])
+    try_list(65536, 65535, [(1, 65535)])
+    try_list(65536, 1, [(1, 1), (65535, 1)])
+    try_list(10, 1, [(1, 2), (4, 1)])  # 2 of 3 words: 334, and not 333
+    try_list(1000, 1, [(1, 1), (3, 996)])
+    try_list(9, 9, [])
+    try_list(9, 9, [(1, 8)], count=1)
+
+
+def cut_lines():
+    whole = [(1, 15)]
+    for t in (1, 2, 3):
+        for a, s in [(1, t), (16 - t, t), (1 + t, t), (2, t), (15 - t, t), (1, 15), (7, t), (1, 15 - t), (1 + t, 15 - t)]:
+            try_off(16, t, a, s, whole)
+    try_off(16, 2, 4, 4, [(4, 4), (10, 6)])
+    try_off(16, 2, 10, 6, [(4, 4), (10, 6)])
+    try_off(16, 2, 7, 2, [(4, 4), (10, 6)])  # runs over an end
+    try_off(16, 2, 3, 2, [(4, 4), (10, 6)])
+    try_off(16, 2, 8, 2, [(4, 4), (10, 6)])  # between two
+    try_off(16, 2, 2, 2, [(4, 4), (10, 6)])  # before all
+    try_off(16, 2, 3, 9, [(4, 4), (10, 6)])  # swallows one
+    try_off(16, 2, 2, 2, [])
+    try_off(18, 5, 7, 5, [(1, 5), (7, 5), (13, 5)])
+    try_off(18, 5, 1, 5, [(1, 5), (7, 5), (13, 5)])
+    try_off(18, 5, 13, 5, [(1, 5), (7, 5), (13, 5)])
+    try_off(4, 1, 2, 1, [(1, 3)])
+    try_off(2, 1, 1, 1, [(1, 1)])
+    say("off", 16, 2, 3, 0, 1, 1, 15)
+    say("off", 16, 2, 3, 17, 1, 1, 15)
+    say("off", 16, 2, 2**32 + 3, 2, 1, 1, 15)
+    say("off", 16, 2, 3, 2, 2, 1, 5, 6, 4, gave=[0])
+    two = [(4, 4), (10, 4), (16, 6)]
+    for s in (0, 1, 2, 3, 4, 5, 6, 7, 2**32 + 4, 2**64 // 4):
+        try_front(22, 2, s, two)
+    try_front(16, 2, 3, [(4, 4), (10, 6)])
+    try_front(16, 2, 6, [(10, 6)])
+    try_front(16, 2, 7, [(10, 6)])
+    try_front(2, 1, 1, [(1, 1)])
+    try_front(16, 2, 2, [])
+    try_front(18, 5, 5, [(1, 5), (7, 5), (13, 5)])
+    say("front", 16, 2, 0, 2, 2, 1, 5, 6, 4, gave=[0])
+
+
+def random_lines(chance):
+    while len(lines) < 330:
+        h, t = chance.randint(2, 60), chance.randint(1, 6)
+        free = [chance.random() < 0.8 for _ in range(h)]
+        if chance.random() < 0.5:
+            free = [free[w // 4] for w in range(h)]
+        records = sweep(free, t)
+        if len(records) > 13:
+            continue
+        s = chance.randint(1, 2 * t + 3)
+        if chance.random() < 0.3:
+            try_front(h, t, s, records)
+        elif records and chance.random() < 0.7:
+            start, size = chance.choice(records)
+            s = min(s, size)
+            try_off(h, t, start + chance.randint(0, size - s), s, records)
+        elif s < h:
+            try_off(h, t, chance.randint(1, h - s), s, records)
+
+
+def comb_lines():
+    for h, a, s in [(65536, 2, 1), (65536, 32770, 1), (65536, 65530, 1), (65536, 32769, 3), (65536, 1, 3), (65536, 65529, 3),
+                    (65536, 65533, 1), (65536, 65534, 1), (65536, 65535, 1), (65536, 4, 1), (65536, 32769, 4), (65533, 65529, 1)]:
+        try_comb(h, a, s)
+
+
+room_lines()
+set_up_lines()
+list_lines()
+cut_lines()
+random_lines(random.Random(2006))
+comb_lines()
+at = os.path.join(os.path.dirname(os.path.abspath(__file__)), "..", "crates", "trials")
+with open(os.path.join(at, "stdin"), "w") as text:
+    text.writelines(line + "\n" for line, _, _ in lines)
+with open(os.path.join(at, "stdout"), "w") as text:
+    text.writelines(line + (" gave" + gave if came else "") + "\n" for line, gave, came in lines)
