@@ -69,7 +69,7 @@ pub fn end() {
 }
 
 // Prints numbers, each behind a space.
-fn numbers(came: &[usize], space: &[u8]) {
+pub fn numbers(came: &[usize], space: &[u8]) {
     for i in 0..came.len() {
         io::write_all(STDOUT_FILENO, space);
         io::print_decimal(STDOUT_FILENO, came[i] as u64);

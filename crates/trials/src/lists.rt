@@ -9,6 +9,7 @@ ghost use mathlib.Core.Path.{_≡_};
 ghost use mathlib.Core.Bool.{true};
 ghost use lib.ListN.{length};
 ghost use Rattle.layout.specs.Limits.{within, listWords};
+ghost use Rattle.freelist.specs.Records.{validList};
 
 // Word i of the list that a line gives.
 fn given(place: [usize; 32], i: usize) -> u32 {
@@ -63,21 +64,17 @@ fn report(j: usize, count: usize, list: &[u32]) {
     }
 }
 
-// Refusal 3, and the survey's figures. Came: 1 and listed, largest, fragment, or 0.
-fn check(list: &[u32], count: usize, words: usize, keep: usize)
-    requires { ⌜ (within words keep ≡ true) × (length (now list) ≡ listWords words keep) ⌝ }
+// The survey's figures. Came: 1 and listed, largest, fragment.
+fn figures(list: &[u32], count: usize, words: usize, keep: usize)
+    requires { ⌜ (within words keep ≡ true) × (length (now list) ≡ listWords words keep) × (validList words keep count (now list) ≡ true) ⌝ }
 {
-    if !records::are_valid(list, count, words, keep) {
-        lines::gave(&[0]);
-        return;
-    }
     let figures = Figures::of(list, count);
     lines::gave(&[1, figures.listed, figures.largest, figures.fragment]);
 }
 
-// The s words from a on are taken off. Came: 0 for a list refused; 1 and the count where no record holds the words.
+// The s words from a on are taken off. Came: 1 and the count where no record holds them, or the report.
 fn off(list: &mut [u32], count: usize, words: usize, keep: usize, a: usize, s: usize)
-    requires { ⌜ (within words keep ≡ true) × (length (now list) ≡ listWords words keep) ⌝ }
+    requires { ⌜ (within words keep ≡ true) × (length (now list) ≡ listWords words keep) × (validList words keep count (now list) ≡ true) ⌝ }
 {
     if s == 0 {
         return;
@@ -86,10 +83,6 @@ fn off(list: &mut [u32], count: usize, words: usize, keep: usize, a: usize, s: u
         return;
     }
     if words < a {
-        return;
-    }
-    if !records::are_valid(list, count, words, keep) {
-        lines::gave(&[0]);
         return;
     }
     let Found::At(j) = search::holding(list, count, a, s) else {
@@ -102,12 +95,8 @@ fn off(list: &mut [u32], count: usize, words: usize, keep: usize, a: usize, s: u
 
 // The first s words of the first record that has them are taken. Came: as above.
 fn front(list: &mut [u32], count: usize, words: usize, keep: usize, s: usize)
-    requires { ⌜ (within words keep ≡ true) × (length (now list) ≡ listWords words keep) ⌝ }
+    requires { ⌜ (within words keep ≡ true) × (length (now list) ≡ listWords words keep) × (validList words keep count (now list) ≡ true) ⌝ }
 {
-    if !records::are_valid(list, count, words, keep) {
-        lines::gave(&[0]);
-        return;
-    }
     let Found::At(j) = search::fitting(list, count, s) else {
         lines::gave(&[1, count]);
         return;
@@ -116,28 +105,34 @@ fn front(list: &mut [u32], count: usize, words: usize, keep: usize, s: usize)
     report(j, left, list);
 }
 
-// A trial in the needed part of the list: l looks at it, f takes a front, any other takes words off, in a comb for c.
+// The list of a trial: a comb for c, else the one that the line gives. The count.
+fn laid(kind: u8, place: [usize; 32], list: &mut [u32]) -> usize {
+    if kind == b'c' {
+        return comb(place[1], list);
+    }
+    write(place, list);
+    place[5]
+}
+
+// A trial in the needed part of the list. Came: 0 where refusal 3 is given. Else l asks for figures, f takes a front, any
+// other takes words off.
 fn in_part(kind: u8, place: [usize; 32], list: &mut [u32], words: usize, keep: usize)
     requires { ⌜ (within words keep ≡ true) × (length (now list) ≡ listWords words keep) ⌝ }
 {
-    let a = place[3];
-    let s = place[4];
-    let count = place[5];
-    if kind == b'c' {
-        let teeth = comb(words, list);
-        off(list, teeth, words, keep, a, s);
+    let count = laid(kind, place, list);
+    if !records::are_valid(list, count, words, keep) {
+        lines::gave(&[0]);
         return;
     }
-    write(place, list);
     if kind == b'l' {
-        check(list, count, words, keep);
+        figures(list, count, words, keep);
         return;
     }
     if kind == b'f' {
-        front(list, count, words, keep, s);
+        front(list, count, words, keep, place[4]);
         return;
     }
-    off(list, count, words, keep, a, s);
+    off(list, count, words, keep, place[3], place[4]);
 }
 
 // A trial of the list.

@@ -3,6 +3,7 @@ use crate::buffer;
 use crate::lines;
 use crate::lists;
 use layout::Rooms;
+use layout::SetUp;
 use layout::State;
 use libc::STDOUT_FILENO;
 
@@ -12,25 +13,21 @@ fn rooms(words: usize, keep: usize) {
     lines::gave(&[rooms.map, rooms.stack, rooms.list]);
 }
 
-// Set-up in buffers full of junk. Came: code; words, keep and count of the state; how many words of map and of list were
-// written over.
+// What set-up answered: its code; words, keep and count of the state.
+fn answer(got: SetUp) {
+    let state = got.state;
+    lines::gave(&[got.code as usize, state.words, state.keep, state.count]);
+}
+
+// Set-up in buffers full of junk. Came: the answer; how many words of map and of list were written over.
 fn set_up(heap: &[u32], keep: usize, map: &mut [u32], list: &mut [u32]) {
     buffer::spoil(map);
     buffer::spoil(list);
-    let got = State::set_up(heap, keep, map, list);
-    let state = got.state;
+    answer(State::set_up(heap, keep, map, list));
     let all = std::num::wrapping_sub_usize(heap.len(), 1) % 65536;
     let over_map = buffer::written_over(map, 0, 0);
     let over_list = buffer::written_over(list, 1, all as u32);
-    let came = [
-        got.code as usize,
-        state.words,
-        state.keep,
-        state.count,
-        over_map,
-        over_list,
-    ];
-    lines::gave(&came);
+    lines::numbers(&[over_map, over_list], b" ");
 }
 
 // The same, in parts of the buffers as long as the line says. A line that asks for more gives nothing.

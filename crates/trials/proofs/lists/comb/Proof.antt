@@ -1,12 +1,11 @@
-use borrow.Author.Needs.{needs}
-use Prim.Native.Nat.{_-_, _+_, _*_, _/_, _≤_, _<_}
+-- `lists::comb` is safe and ends.
+use Prim.Native.Nat.{_-_}
 use mathlib.Core.Path.{_≡_}
-use lib.ListN.{length, length-set}
 use native.Mathlib.Omega.{arith}
+use lib.ListN.{length, length-set}
+use borrow.Author.Needs.{needs}
 use Rattle.trials.proofs.lists.comb.Statement.{statement}
 use Rattle.trials.proofs.lists.comb.Tie as tie
-use Rattle.trials.proofs.lists.comb.Reads as reads
-use Rattle.trials.proofs.lists.comb.Lts as lts
 
 abbrev Inv-loop : tie.InvT-loop
 Inv-loop words list₀ i₀ list i = length list ≡ length list₀
@@ -14,87 +13,66 @@ Inv-loop words list₀ i₀ list i = length list ≡ length list₀
 abbrev μ-loop : tie.MeasureT-loop
 μ-loop words list₀ i₀ list i = length list₀ - i
 
--- src/lists.rt:34:5
 loop-holds : tie.Need-loop-holds Inv-loop μ-loop
 loop-holds c = search needs
 
--- src/lists.rt:35:25
 mul-start : tie.Need-mul-start Inv-loop μ-loop
 mul-start c = search needs
 
--- src/lists.rt:35:21
 add-start : tie.Need-add-start Inv-loop μ-loop
 add-start c = search needs
 
--- src/lists.rt:37:13
 same-length : tie.Need-same-length Inv-loop μ-loop
 same-length c = search needs
 
--- src/lists.rt:37:13
 returns : tie.Need-returns Inv-loop μ-loop
 returns c = search needs
 
--- src/lists.rt:39:20
 add-if2 : tie.Need-add-if2 Inv-loop μ-loop
 add-if2 c = search needs
 
--- src/lists.rt:40:13
 same-length-2 : tie.Need-same-length-2 Inv-loop μ-loop
 same-length-2 c = search needs
 
--- src/lists.rt:40:13
 returns-2 : tie.Need-returns-2 Inv-loop μ-loop
 returns-2 c = search needs
 
--- src/lists.rt:42:23
 cast-list : tie.Need-cast-list Inv-loop μ-loop
 cast-list c = search needs
 
--- src/lists.rt:42:14
 mul-list : tie.Need-mul-list Inv-loop μ-loop
 mul-list c = search needs
 
--- src/lists.rt:42:9
 mul-list-2 : tie.Need-mul-list-2 Inv-loop μ-loop
 mul-list-2 c = search needs
 
--- src/lists.rt:42:9
 slice-write-list : tie.Need-slice-write-list Inv-loop μ-loop
 slice-write-list c = search needs
 
--- src/lists.rt:43:14
 mul-list-3 : tie.Need-mul-list-3 Inv-loop μ-loop
 mul-list-3 c = search needs
 
--- src/lists.rt:43:14
 add-list : tie.Need-add-list Inv-loop μ-loop
 add-list c = search needs
 
--- src/lists.rt:43:9
 mul-list-4 : tie.Need-mul-list-4 Inv-loop μ-loop
 mul-list-4 c = search needs
 
--- src/lists.rt:43:9
 slice-write-list-2 : tie.Need-slice-write-list-2 Inv-loop μ-loop
 slice-write-list-2 c = simp length-set (omega arith)
 
--- src/lists.rt:44:9
 add-i : tie.Need-add-i Inv-loop μ-loop
 add-i c = search needs
 
--- src/lists.rt:34:5
 loop-less : tie.Need-loop-less Inv-loop μ-loop
 loop-less c = search needs
 
--- src/lists.rt:34:5
 loop-again : tie.Need-loop-again Inv-loop μ-loop
 loop-again c = search needs
 
--- src/lists.rt:32:1
 same-length-3 : tie.Need-same-length-3 Inv-loop μ-loop
 same-length-3 c = search needs
 
--- src/lists.rt:32:1
 returns-3 : tie.Need-returns-3 Inv-loop μ-loop
 returns-3 c = search needs
 

@@ -1,13 +1,10 @@
-use borrow.Author.Needs.{needs}
-use Prim.Native.Nat.{_-_, _+_, _*_, _/_, _≤_, _<_}
+-- `lists::write` is safe and ends.
+use Prim.Native.Nat.{_-_, _≤_}
 use mathlib.Core.Path.{_≡_}
-use lib.ListN.{length, length-set}
-use native.Mathlib.Omega.{arith}
+use lib.ListN.{length}
+use borrow.Author.Needs.{needs}
 use Rattle.trials.proofs.lists.write.Statement.{statement}
 use Rattle.trials.proofs.lists.write.Tie as tie
-use Rattle.trials.proofs.lists.write.Reads as reads
-use Rattle.trials.proofs.lists.write.Lts as lts
-use Rattle.trials.proofs.lists.given.Reads as given-reads
 
 abbrev Inv-loop : tie.InvT-loop
 Inv-loop place list₀ i₀ i-end list i = (i ≤ i-end) × (length list ≡ length list₀)
@@ -15,39 +12,30 @@ Inv-loop place list₀ i₀ i-end list i = (i ≤ i-end) × (length list ≡ len
 abbrev μ-loop : tie.MeasureT-loop
 μ-loop place list₀ i₀ i-end list i = i-end - i
 
--- src/lists.rt:26:5
 loop-holds : tie.Need-loop-holds Inv-loop μ-loop
 loop-holds c = search needs
 
--- src/lists.rt:27:19
 given-requires : tie.Need-given-requires Inv-loop μ-loop
 given-requires c κs = search needs
 
--- src/lists.rt:27:9
 mul-list : tie.Need-mul-list Inv-loop μ-loop
 mul-list c = search needs
 
--- src/lists.rt:27:9
 slice-write-list : tie.Need-slice-write-list Inv-loop μ-loop
 slice-write-list c = search needs
 
--- src/lists.rt:26:9
 add-i : tie.Need-add-i Inv-loop μ-loop
 add-i c = search needs
 
--- src/lists.rt:26:5
 loop-less : tie.Need-loop-less Inv-loop μ-loop
 loop-less c = search needs
 
--- src/lists.rt:26:5
 loop-again : tie.Need-loop-again Inv-loop μ-loop
 loop-again c = search needs
 
--- src/lists.rt:25:1
 same-length : tie.Need-same-length Inv-loop μ-loop
 same-length c = search needs
 
--- src/lists.rt:25:1
 returns : tie.Need-returns Inv-loop μ-loop
 returns c = search needs
 

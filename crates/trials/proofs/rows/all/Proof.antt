@@ -1,14 +1,9 @@
-use borrow.Author.Needs.{needs}
+-- `rows::all` is safe and ends: each turn goes past a line.
 use Prim.Native.Nat.{_-_}
 use lib.ListN.{length}
+use borrow.Author.Needs.{needs}
 use Rattle.trials.proofs.rows.all.Statement.{statement}
 use Rattle.trials.proofs.rows.all.Tie as tie
-use Rattle.trials.proofs.rows.all.Reads as reads
-use Rattle.trials.proofs.rows.all.Lts as lts
-use Rattle.io.proofs.write_all.Reads as write-all-reads
-use Rattle.trials.proofs.lines.end.Reads as end-reads
-use Rattle.trials.proofs.lines.line_at.Reads as line-at-reads
-use Rattle.trials.proofs.rows.trial.Reads as trial-reads
 
 abbrev Inv-loop : tie.InvT-loop
 Inv-loop text at₀ at = Unit {0}
@@ -16,55 +11,42 @@ Inv-loop text at₀ at = Unit {0}
 abbrev μ-loop : tie.MeasureT-loop
 μ-loop text at₀ at = length text - at
 
--- src/rows.rt:72:5
 loop-holds : tie.Need-loop-holds Inv-loop μ-loop
 loop-holds c = search needs
 
--- src/rows.rt:73:13
 line-at-requires : tie.Need-line-at-requires Inv-loop μ-loop
 line-at-requires c κs = search needs
 
--- src/rows.rt:76:38
 sub-write-all : tie.Need-sub-write-all Inv-loop μ-loop
 sub-write-all c = search needs
 
--- src/rows.rt:76:38
 part-write-all-start : tie.Need-part-write-all-start Inv-loop μ-loop
 part-write-all-start c = search needs
 
--- src/rows.rt:76:38
 part-write-all-end : tie.Need-part-write-all-end Inv-loop μ-loop
 part-write-all-end c = search needs
 
--- src/rows.rt:76:9
 write-all-requires : tie.Need-write-all-requires Inv-loop μ-loop
 write-all-requires c κs = search needs
 
--- src/rows.rt:77:15
 shared-slice-read-trial : tie.Need-shared-slice-read-trial Inv-loop μ-loop
 shared-slice-read-trial c = search needs
 
--- src/rows.rt:77:9
 trial-requires : tie.Need-trial-requires Inv-loop μ-loop
 trial-requires c κs = search needs
 
--- src/rows.rt:78:9
 end-requires : tie.Need-end-requires Inv-loop μ-loop
 end-requires c κs = search needs
 
--- src/rows.rt:79:14
 add-at : tie.Need-add-at Inv-loop μ-loop
 add-at c = search needs
 
--- src/rows.rt:72:5
 loop-less : tie.Need-loop-less Inv-loop μ-loop
 loop-less c = search needs
 
--- src/rows.rt:72:5
 loop-again : tie.Need-loop-again Inv-loop μ-loop
 loop-again c = search needs
 
--- src/rows.rt:70:1
 returns : tie.Need-returns Inv-loop μ-loop
 returns c = search needs
 
