@@ -114,8 +114,22 @@ fn laid(kind: u8, place: [usize; 32], list: &mut [u32]) -> usize {
     place[5]
 }
 
-// A trial in the needed part of the list. Came: 0 where refusal 3 is given. Else l asks for figures, f takes a front, any
-// other takes words off.
+// A trial of a list that passed: l asks for figures, f takes a front, any other takes words off.
+fn passed(kind: u8, list: &mut [u32], count: usize, words: usize, keep: usize, a: usize, s: usize)
+    requires { ⌜ (within words keep ≡ true) × (length (now list) ≡ listWords words keep) × (validList words keep count (now list) ≡ true) ⌝ }
+{
+    if kind == b'l' {
+        figures(list, count, words, keep);
+        return;
+    }
+    if kind == b'f' {
+        front(list, count, words, keep, s);
+        return;
+    }
+    off(list, count, words, keep, a, s);
+}
+
+// A trial in the needed part of the list. Came: 0 where refusal 3 is given.
 fn in_part(kind: u8, place: [usize; 32], list: &mut [u32], words: usize, keep: usize)
     requires { ⌜ (within words keep ≡ true) × (length (now list) ≡ listWords words keep) ⌝ }
 {
@@ -124,15 +138,7 @@ fn in_part(kind: u8, place: [usize; 32], list: &mut [u32], words: usize, keep: u
         lines::gave(&[0]);
         return;
     }
-    if kind == b'l' {
-        figures(list, count, words, keep);
-        return;
-    }
-    if kind == b'f' {
-        front(list, count, words, keep, place[4]);
-        return;
-    }
-    off(list, count, words, keep, place[3], place[4]);
+    passed(kind, list, count, words, keep, place[3], place[4]);
 }
 
 // A trial of the list.

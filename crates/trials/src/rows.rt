@@ -21,8 +21,6 @@ fn answer(got: SetUp) {
 
 // Set-up in buffers full of junk. Came: the answer; how many words of map and of list were written over.
 fn set_up(heap: &[u32], keep: usize, map: &mut [u32], list: &mut [u32]) {
-    buffer::spoil(map);
-    buffer::spoil(list);
     answer(State::set_up(heap, keep, map, list));
     let all = std::num::wrapping_sub_usize(heap.len(), 1) % 65536;
     let over_map = buffer::written_over(map, 0, 0);

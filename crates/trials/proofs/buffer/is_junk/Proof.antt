@@ -19,9 +19,6 @@ mul-if1 c = search needs
 shared-slice-read-if1 : tie.Need-shared-slice-read-if1 Inv-loop μ-loop
 shared-slice-read-if1 c = search needs
 
-junk-requires : tie.Need-junk-requires Inv-loop μ-loop
-junk-requires c κs = search needs
-
 returns : tie.Need-returns Inv-loop μ-loop
 returns c = search needs
 
@@ -46,7 +43,6 @@ is-junk-spec =
     loop-holds
     mul-if1
     shared-slice-read-if1
-    junk-requires
     returns
     add-i
     loop-less

@@ -23,41 +23,20 @@ same-length c = search needs
 returns : tie.Need-returns
 returns c = search needs
 
-figures-requires : tie.Need-figures-requires
-figures-requires c κs = (c .before .before .before .before .before .before .before .before .before .before .pre .0, search needs, sym (c .before .before .before .are-valid .ensures) ∙ not-false _ (c .before .before .if1 .left))
+array-read-passed : tie.Need-array-read-passed
+array-read-passed c = search needs
+
+array-read-passed-2 : tie.Need-array-read-passed-2
+array-read-passed-2 c = search needs
+
+passed-requires : tie.Need-passed-requires
+passed-requires c κs = (c .before .before .before .before .before .before .before .before .before .pre .0, search needs, sym (c .before .before .are-valid .ensures) ∙ not-false _ (c .before .if1 .left))
 
 same-length-2 : tie.Need-same-length-2
 same-length-2 c = search needs
 
 returns-2 : tie.Need-returns-2
 returns-2 c = search needs
-
-array-read-front : tie.Need-array-read-front
-array-read-front c = search needs
-
-front-requires : tie.Need-front-requires
-front-requires c κs = (c .before .before .before .before .before .before .before .before .before .before .before .pre .0, search needs, sym (c .before .before .before .before .are-valid .ensures) ∙ not-false _ (c .before .before .before .if1 .left))
-
-same-length-3 : tie.Need-same-length-3
-same-length-3 c = search needs
-
-returns-3 : tie.Need-returns-3
-returns-3 c = search needs
-
-array-read-off : tie.Need-array-read-off
-array-read-off c = search needs
-
-array-read-off-2 : tie.Need-array-read-off-2
-array-read-off-2 c = search needs
-
-off-requires : tie.Need-off-requires
-off-requires c κs = (c .before .before .before .before .before .before .before .before .before .before .before .pre .0, search needs, sym (c .before .before .before .before .are-valid .ensures) ∙ not-false _ (c .before .before .before .if1 .left))
-
-same-length-4 : tie.Need-same-length-4
-same-length-4 c = search needs
-
-returns-4 : tie.Need-returns-4
-returns-4 c = search needs
 
 pub in-part-spec : {M : Type 1} → statement M
 in-part-spec =
@@ -69,15 +48,8 @@ in-part-spec =
     gave-requires
     same-length
     returns
-    figures-requires
+    array-read-passed
+    array-read-passed-2
+    passed-requires
     same-length-2
-    returns-2
-    array-read-front
-    front-requires
-    same-length-3
-    returns-3
-    array-read-off
-    array-read-off-2
-    off-requires
-    same-length-4
-    returns-4)
+    returns-2)
