@@ -3,10 +3,11 @@
 
 The answers are worked out here from the rules alone, and not the way the proved code works. The free list after words
 were taken off is found by a sweep over a bitmap of the whole heap; the record that holds words, by looking at every one.
-The gate does not run this: it compares what the proved program prints with the written answers.
+With --check nothing is written: the two files must be there as they would be written.
 """
 import os
 import random
+import sys
 
 MAX_WORDS, MAX_KEEP = 65536, 65535
 lines = []
@@ -203,6 +204,8 @@ def cut_lines():
     try_off(16, 2, 8, 2, [(4, 4), (10, 6)])  # between two
     try_off(16, 2, 2, 2, [(4, 4), (10, 6)])  # before all
     try_off(16, 2, 3, 9, [(4, 4), (10, 6)])  # swallows one
+    try_off(16, 2, 0, 2, [(1, 15)])
+    try_off(16, 2, 15, 2, [(1, 15)])
     try_off(16, 2, 2, 2, [])
     try_off(18, 5, 7, 5, [(1, 5), (7, 5), (13, 5)])
     try_off(18, 5, 1, 5, [(1, 5), (7, 5), (13, 5)])
@@ -257,8 +260,15 @@ list_lines()
 cut_lines()
 random_lines(random.Random(2006))
 comb_lines()
-at = os.path.join(os.path.dirname(os.path.abspath(__file__)), "..", "crates", "trials")
-with open(os.path.join(at, "stdin"), "w") as text:
-    text.writelines(line + "\n" for line, _, _ in lines)
-with open(os.path.join(at, "stdout"), "w") as text:
-    text.writelines(line + (" gave" + gave if came else "") + "\n" for line, gave, came in lines)
+folder = os.path.join(os.path.dirname(os.path.abspath(__file__)), "..", "crates", "trials")
+texts = {
+    "stdin": "".join(line + "\n" for line, _, _ in lines),
+    "stdout": "".join(line + (" gave" + gave if came else "") + "\n" for line, gave, came in lines),
+}
+for name, text in texts.items():
+    path = os.path.join(folder, name)
+    if sys.argv[1:] != ["--check"]:
+        with open(path, "w") as file:
+            file.write(text)
+    elif open(path).read() != text:
+        sys.exit(f"hosts/trials.py: crates/trials/{name} is not what the rules give")

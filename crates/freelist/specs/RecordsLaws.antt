@@ -21,6 +21,7 @@ unfolding records
 length-records zero list = refl
 length-records (suc n) list = ap suc (length-records n (drop 2 list))
 
+-- What stands past the first two words.
 past-two : (list : List ℕ) (i : ℕ) → getD (drop 2 list) i 0 ≡ getD list (suc (suc i)) 0
 past-two [] i = refl
 past-two (x ∷ []) i = refl
@@ -92,6 +93,7 @@ module _ (h t n : ℕ) (list : List ℕ) where
   unfolding inOrder
   order-end from i e = rw (records-end n list i e)
 
+-- What passes the rule is in order.
 order-sound : (t h from : ℕ) (l : List Interval) → inOrder t h from l ≡ true → Ordered t 1 h (from + 1) l
 unfolding inOrder
 order-sound t h from [] e = none
@@ -101,6 +103,7 @@ order-sound t h from (i ∷ l) e =
     let z = and-eq-true-iff _ _ .0 (y .0) in
     one {lo = from + 1} {i = i} (omega (arith, ltb-true from (i .start) (z .0))) (leb-true t (i .size) (z .1)) (leb-true (end i) h (y .1)) (order-sound t h (end i) l (x .1))
 
+-- What is in order passes the rule.
 order-complete : {t h lo : ℕ} {l : List Interval} (from : ℕ) → from + 1 ≡ lo → Ordered t 1 h lo l → inOrder t h from l ≡ true
 unfolding inOrder
 order-complete from e none = refl
@@ -114,4 +117,7 @@ order-ordered t h l = (order-sound t h 0 l, λ o. order-complete 0 refl o)
 -- A list that passes has its records in the needed part, and its intervals are in order.
 pub valid-ordered : (h t n : ℕ) (list : List ℕ) → validList h t n list ≡ true → (2 * n ≤ listWords h t) × Ordered t 1 h 1 (records n list)
 unfolding validList listWords
-valid-ordered h t n list e = let x = and-eq-true-iff _ _ .0 e in (omega (arith, leb-true n (listRoom h t) (x .0)), order-ordered t h (records n list) .0 (x .1))
+valid-ordered h t n list e =
+    let x = and-eq-true-iff _ _ .0 e in
+    let room : n ≤ listRoom h t = leb-true n (listRoom h t) (x .0) in
+    (omega (arith, room), order-ordered t h (records n list) .0 (x .1))

@@ -22,12 +22,12 @@ pub ordered-sorted : {k g e lo : ℕ} {l : List Interval} → 1 ≤ g → Ordere
 ordered-sorted some o i j p q = omega (arith, ordered-apart o i j p q)
 
 -- What a search for a test tells of the list, where its first interval has the place j.
-abbrev pub Tells : (Interval → Bool) → ℕ → List Interval → Found → Type 0
+abbrev Tells : (Interval → Bool) → ℕ → List Interval → Found → Type 0
 Tells test j l (At p) = (n : ℕ) × (j + n ≡ p) × (n < length l) × (test (intervalAt l n) ≡ true) × ((m : ℕ) → m < n → test (intervalAt l m) ≡ false)
 Tells test j l Nothing = (m : ℕ) → m < length l → test (intervalAt l m) ≡ false
 
 -- The interval found passes and none before it does; where none is found, none passes.
-pub first-tells : (test : Interval → Bool) (j : ℕ) (l : List Interval) → Tells test j l (firstFrom test j l)
+first-tells : (test : Interval → Bool) (j : ℕ) (l : List Interval) → Tells test j l (firstFrom test j l)
 unfolding firstFrom
 first-tells test j [] = λ m h. absurd (omega arith)
 first-tells test j (i ∷ l) = go (test i) refl (first-tells test (suc j) l)
@@ -49,7 +49,7 @@ first-tells test j (i ∷ l) = go (test i) refl (first-tells test (suc j) l)
     go false e ih = later (firstFrom test (suc j) l) e ih
 
 -- Only one answer tells so.
-pub tells-first : (test : Interval → Bool) (j : ℕ) (l : List Interval) (f : Found) → Tells test j l f → firstFrom test j l ≡ f
+tells-first : (test : Interval → Bool) (j : ℕ) (l : List Interval) (f : Found) → Tells test j l f → firstFrom test j l ≡ f
 tells-first test j l f t = same (firstFrom test j l) f (first-tells test j l) t
   where
     below : (m n : ℕ) → test (intervalAt l m) ≡ true → ((i : ℕ) → i < n → test (intervalAt l i) ≡ false) → n ≤ m
@@ -77,58 +77,69 @@ module _ (test : Interval → Bool) (n : ℕ) (list : List ℕ) (i : ℕ) where
       let next : i + 1 ≡ suc i = omega arith in
       rw (records-next n list i l, firstFrom, e, next)
 
+-- What an answer of a search says of the list.
+module _ (test : Interval → Bool) (l : List Interval) {f : Found} (e : f ≡ firstFrom test 0 l) where
+  told : Tells test 0 l f
+  told = rw e (first-tells test 0 l)
+
+  -- The interval found stands there and passes.
+  first-at : (j : ℕ) → f ≡ At j → (j < length l) × (test (intervalAt l j) ≡ true)
+  first-at j p = go (subst (λ (g : Found). Tells test 0 l g) p told)
+    where
+      go : Tells test 0 l (At j) → (j < length l) × (test (intervalAt l j) ≡ true)
+      go (n, q, h, t, b) =
+          let here : n ≡ j = omega arith in
+          (omega arith, subst (λ (m : ℕ). test (intervalAt l m) ≡ true) here t)
+
+  -- Where none is found none passes.
+  first-none : f ≡ Nothing → (j : ℕ) → j < length l → test (intervalAt l j) ≡ false
+  first-none p = subst (λ (g : Found). Tells test 0 l g) p told
+
 -- What the choice for an allot of s words says of the list.
 module _ (s : ℕ) (l : List Interval) {f : Found} (e : f ≡ fitting s l) where
-  chosen : Tells (fits s) 0 l f
-  unfolding fitting
-  chosen = rw e (first-tells (fits s) 0 l)
-
   -- The chosen interval has the words.
   pub fitting-in : (j : ℕ) → f ≡ At j → In l (intervalAt l j .start) s j
-  fitting-in j p = go (subst (λ (g : Found). Tells (fits s) 0 l g) p chosen)
-    where
-      go : Tells (fits s) 0 l (At j) → In l (intervalAt l j .start) s j
-      go (n, p, h, q, b) =
-          let here : n ≡ j = omega arith in
-          let size : s ≤ intervalAt l j .size = subst (λ (t : ℕ). s ≤ intervalAt l t .size) here (leb-true s (intervalAt l n .size) q) in
-          record { there = omega arith; low = omega arith; high = omega arith }
+  unfolding fitting
+  fitting-in j p =
+      let x = first-at (fits s) l e j p in
+      let size : s ≤ intervalAt l j .size = leb-true s (intervalAt l j .size) (x .1) in
+      record { there = x .0; low = omega arith; high = omega arith }
 
   -- None is chosen only if no listed interval has them.
   pub fitting-none : f ≡ Nothing → (j : ℕ) → j < length l → intervalAt l j .size < s
-  fitting-none p j h = leb-false s (intervalAt l j .size) (subst (λ (g : Found). Tells (fits s) 0 l g) p chosen j h)
+  unfolding fitting
+  fitting-none p j h = leb-false s (intervalAt l j .size) (first-none (fits s) l e p j h)
 
 -- What an interval contains, by its two ends.
 contains-in : (a s : ℕ) (i : Interval) → contains a s i ≡ true → (i .start ≤ a) × (a + s ≤ end i)
 contains-in a s i e = let x = and-eq-true-iff _ _ .0 e in (leb-true (i .start) a (x .0), leb-true (a + s) (end i) (x .1))
 
+-- And the other way.
 in-contains : (a s : ℕ) (i : Interval) → i .start ≤ a → a + s ≤ end i → contains a s i ≡ true
 in-contains a s i p q = rw (le-leb (i .start) a p, le-leb (a + s) (end i) q)
 
+-- An interval that ends before the words do does not contain them.
 before-contains : (a s : ℕ) (i : Interval) → end i < a + s → contains a s i ≡ false
 before-contains a s i p = rw (lt-leb (a + s) (end i) p) (simp and-false)
 
+-- Nor does one that starts behind their first.
 behind-contains : (a s : ℕ) (i : Interval) → a < i .start → contains a s i ≡ false
 behind-contains a s i p = rw (lt-leb (i .start) a p)
 
 -- What the search for the s words from a on says of the list.
 module _ (a s : ℕ) (l : List Interval) {f : Found} (e : f ≡ holder a s l) where
-  met : Tells (contains a s) 0 l f
-  unfolding holder
-  met = rw e (first-tells (contains a s) 0 l)
-
   -- The interval found contains them.
   pub holder-in : (j : ℕ) → f ≡ At j → In l a s j
-  holder-in j p = go (subst (λ (g : Found). Tells (contains a s) 0 l g) p met)
-    where
-      go : Tells (contains a s) 0 l (At j) → In l a s j
-      go (n, p, h, q, b) =
-          let here : n ≡ j = omega arith in
-          let x = contains-in a s (intervalAt l n) q in
-          subst (λ (t : ℕ). In l a s t) here (record { there = h; low = x .0; high = x .1 })
+  unfolding holder
+  holder-in j p =
+      let x = first-at (contains a s) l e j p in
+      let y = contains-in a s (intervalAt l j) (x .1) in
+      record { there = x .0; low = y .0; high = y .1 }
 
   -- None is found only if none contains them.
   pub holder-none : f ≡ Nothing → Holds l a s → ⊥
-  holder-none p (j, i) = clash (in-contains a s (intervalAt l j) (i .low) (i .high)) (subst (λ (g : Found). Tells (contains a s) 0 l g) p met j (i .there))
+  unfolding holder
+  holder-none p (j, i) = clash (in-contains a s (intervalAt l j) (i .low) (i .high)) (first-none (contains a s) l e p j (i .there))
 
 -- Halving has come to one place: intervals before it end below a, those behind it start above a, and it alone is left to look at.
 holder-left : (a s : ℕ) (l : List Interval) (lo hi : ℕ) → Sorted l → lo < length l → hi ≤ suc lo → (0 < lo → intervalAt l lo .start ≤ a) → (hi < length l → a < intervalAt l hi .start)

@@ -15,6 +15,7 @@ use Rattle.words.specs.CoverLaws.{owner-covers, covered-owner}
 use Rattle.runs.specs.Covers.{Marks, Thick}
 use Rattle.runs.specs.LongestLaws.{clash}
 
+-- Two tests that agree below n find the same.
 below-same : (n : ℕ) (p q : ℕ → Bool) → ((i : ℕ) → i < n → p i ≡ q i) → someBelow n p ≡ someBelow n q
 unfolding someBelow
 below-same zero p q f = refl

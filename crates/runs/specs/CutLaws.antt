@@ -12,6 +12,7 @@ use Rattle.runs.specs.Lists.{In, cut}
 use Rattle.runs.specs.Sweep.{Sweep, ends, stretch, kept-cases, kept-long, kept-short, runs-sweep, sweep-runs}
 use Rattle.runs.specs.LongestLaws.{sweep-longest}
 
+-- A sweep goes by the words from where it begins up to its end.
 sweep-agree : {k : ℕ} {cov cov′ : ℕ → Bool} {e at : ℕ} {l : List Interval} → Agree cov cov′ at e → Sweep k cov e at l → Sweep k cov′ e at l
 sweep-agree g ends = ends
 sweep-agree g (stretch n b q r f c v) =
@@ -34,6 +35,7 @@ sweep-skip {k} {cov} {e} {b} {l} (suc m) at p some h g v =
     subst (λ (x : List Interval). Sweep k cov e at x) (kept-short k at 0 l some)
     (stretch 0 at (omega arith) (omega arith) (λ w lo hi. absurd (omega arith)) (λ x. g at (omega arith) (omega arith)) (sweep-skip m (suc at) (omega arith) some h (λ w lo hi. g w (omega arith) hi) v))
 
+-- Where words of a kept run are covered the sweep gives the list cut there.
 sweep-cut : {k : ℕ} {cov cov′ : ℕ → Bool} {e at a s : ℕ} {l : List Interval} → 1 ≤ k → 1 ≤ s → Marks cov cov′ a s → Sweep k cov e at l → (j : ℕ) → In l a s j → Sweep k cov′ e at (cut k a s l j)
 unfolding cut
 sweep-cut some size mk ends j i = absurd (omega arith)

@@ -37,9 +37,11 @@ sweep-longest {k} {cov} {e} {at} some (stretch {l = l} n b q r f c v) j h =
     first ih y zero h = record { low = omega arith; high = omega arith; enough = y; free = λ w lo hi. f w lo (omega arith); before = λ o. absurd (omega arith); after = λ o. rw q (c (omega arith)) }
     first ih y (suc j) h = ih j (omega arith)
 
+-- An interval is its start and its size.
 same-interval : {i : Interval} {a n : ℕ} → i .start ≡ a → i .size ≡ n → i ≡ record { start = a; size = n }
 same-interval p q = λ t. record { start = p t; size = q t }
 
+-- What stands in a list stands in one with a run in front.
 member-kept : (k at n : ℕ) (l : List Interval) {i : Interval} → Member l i → Member (kept k at n l) i
 member-kept k at n l {i} g = kept-cases (λ m. Member m i) k at n l (λ y. (suc (g .0), omega arith, g .2)) (λ x. g)
 
@@ -69,9 +71,11 @@ runs-longest k h cov i some = (
     sound : Longest k cov 1 (suc (h - 1)) i → Longest k cov 1 h i
     sound g = subst (λ (x : ℕ). Longest k cov 1 x i) (omega arith) g
 
+-- Words that lie in an interval of a list lie in one of a list with a run in front.
 holds-kept : (k at n : ℕ) (l : List Interval) (a s : ℕ) → Holds l a s → Holds (kept k at n l) a s
 holds-kept k at n l a s g = kept-cases (λ m. Holds m a s) k at n l (λ y. (suc (g .0), record { there = omega arith; low = g .1 .low; high = g .1 .high })) (λ x. g)
 
+-- A free stretch that has the keep length lies in a kept run.
 sweep-holds : {k : ℕ} {cov : ℕ → Bool} {e at : ℕ} {l : List Interval} (a s : ℕ) → 1 ≤ k → k ≤ s → at ≤ a → a + s ≤ e → Free cov a (a + s) → Sweep k cov e at l → Holds l a s
 sweep-holds a s some enough lo hi g ends = absurd (omega arith)
 sweep-holds {k} {cov} {e} {at} a s some enough lo hi g (stretch {l = l} n b q r f c v) =

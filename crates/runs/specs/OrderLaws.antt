@@ -67,6 +67,7 @@ ordered-apart (one a b c o) i zero p q = absurd (omega arith)
 ordered-apart (one a b c o) zero (suc j) p q = ordered-first o j (omega arith)
 ordered-apart (one a b c o) (suc i) (suc j) p q = ordered-apart o i j (omega arith) (omega arith)
 
+-- Of two intervals that contain the same words neither stands behind the other.
 in-below : {k g e lo : ℕ} {l : List Interval} {a s i j : ℕ} → 1 ≤ g → Ordered k g e lo l → In l a s i → In l a s j → i ≤ j
 in-below {i = i} {j = j} g1 o p q = elim (decLe i j) [ yes x ↦ x | no x ↦ absurd (omega (arith, ordered-apart o j i (omega arith) (p .there), p .low, q .high)) ]
 
@@ -74,6 +75,7 @@ in-below {i = i} {j = j} g1 o p q = elim (decLe i j) [ yes x ↦ x | no x ↦ ab
 pub in-unique : {k g e lo : ℕ} {l : List Interval} {a s i j : ℕ} → 1 ≤ g → Ordered k g e lo l → In l a s i → In l a s j → i ≡ j
 in-unique g1 o p q = omega (arith, in-below g1 o p q, in-below g1 o q p)
 
+-- A run in front of an ordered list keeps the order.
 ordered-kept : {k g e lo up : ℕ} {l : List Interval} (at n : ℕ) → lo ≤ at → at + n ≤ e → at + n + g ≤ up → Ordered k g e up l → Ordered k g e lo (kept k at n l)
 ordered-kept {k} {g} {e} {lo} {up} {l} at n a b c o =
     kept-cases (λ m. Ordered k g e lo m) k at n l (λ y. one {lo = lo} {i = record { start = at; size = n }} a y b (ordered-low c o)) (λ x. ordered-low (omega arith) o)

@@ -13,10 +13,12 @@ use Rattle.runs.specs.Lists.{end, In, Ordered, none, one, cut, listed}
 use Rattle.runs.specs.Sweep.{kept-cases}
 use Rattle.runs.specs.OrderLaws.{runs-ordered, ordered-count}
 
+-- A run in front adds at most its words.
 listed-kept : (k at n : ℕ) (l : List Interval) → listed (kept k at n l) ≤ n + listed l
 unfolding listed
 listed-kept k at n l = kept-cases (λ m. listed m ≤ n + listed l) k at n l (λ y. omega arith) (λ x. omega arith)
 
+-- Words listed by a scan and words covered are no more than the words scanned.
 scan-listed : (k : ℕ) (cov : ℕ → Bool) (at n left b : ℕ) → at + n ≡ b → listed (runsFrom k cov at n left) + coveredIn cov b left ≤ n + left
 unfolding listed coveredIn runsFrom
 scan-listed k cov at n zero b p = omega (arith, listed-kept k at n [])

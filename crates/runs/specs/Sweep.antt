@@ -25,9 +25,11 @@ kept-cases P k at n l long short = go (leb k n) refl
     go true e = long (leb-true k n e)
     go false e = short (leb-false k n e)
 
+-- A run that has the keep length is listed.
 pub kept-long : (k at n : ℕ) (l : List Interval) → k ≤ n → kept k at n l ≡ record { start = at; size = n } ∷ l
 kept-long k at n l h = kept-cases (λ m. m ≡ record { start = at; size = n } ∷ l) k at n l (λ y. refl) (λ x. absurd (omega arith))
 
+-- A shorter one is not.
 pub kept-short : (k at n : ℕ) (l : List Interval) → n < k → kept k at n l ≡ l
 kept-short k at n l h = kept-cases (λ m. m ≡ l) k at n l (λ y. absurd (omega arith)) (λ x. refl)
 
@@ -44,6 +46,7 @@ scan-sweeps k cov at n (suc left) e p f = go (λ at′ n′. scan-sweeps k cov a
     go ih false c =
         ih at (suc n) (omega arith) (λ w lo hi. elim (decLe (at + n) w) [ yes h ↦ subst (λ (x : ℕ). cov x ≡ false) (omega arith) c | no h ↦ f w lo (omega arith) ])
 
+-- The list is swept over words 1 to h-1.
 pub runs-sweep : (k h : ℕ) (cov : ℕ → Bool) → Sweep k cov (suc (h - 1)) 1 (runs k h cov)
 unfolding runs
 runs-sweep k h cov = scan-sweeps k cov 1 0 (h - 1) (suc (h - 1)) (omega arith) (λ w lo hi. absurd (omega arith))
@@ -87,6 +90,7 @@ sweep-scan {k} {cov} {e} {at} left p (stretch {l = l} n b q r f c v) =
     go ih zero h = rw (sweep-end (omega arith) v)
     go ih (suc m) h = scan-closed k cov at n b m q (c (omega arith)) ∙ ap (kept k at n) (ih m (omega arith))
 
+-- What is swept over these words is the list.
 pub sweep-runs : {k : ℕ} {cov : ℕ → Bool} (h : ℕ) {l : List Interval} → Sweep k cov (suc (h - 1)) 1 l → runs k h cov ≡ l
 unfolding runs
 sweep-runs h v = sweep-scan (h - 1) (omega arith) v

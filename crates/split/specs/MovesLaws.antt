@@ -23,9 +23,11 @@ two-stores list at x y h = rw add-one (sets-eq (x ∷ y ∷ []) list at h ∙ ap
 abbrev pub rising : List ℕ → ℕ → ℕ → List ℕ
 rising list to i = take (i + 2) list ++ (slice i to list ++ drop (to + 2) list)
 
+-- At first nothing has moved.
 pub rising-none : (list : List ℕ) (to : ℕ) → list ≡ rising list to to
 rising-none list to = rw slice-empty (sym (take-append-drop (to + 2) list))
 
+-- Each store moves one word up.
 pub rising-more : (list : List ℕ) (to i j : ℕ) → suc j ≡ i → i ≤ to → to + 2 ≤ length list → set (rising list to i) (j + 2) (getD (rising list to i) j 0) ≡ rising list to j
 rising-more list to i j q h f =
     let r : List ℕ = slice i to list ++ drop (to + 2) list in
@@ -38,6 +40,7 @@ rising-more list to i j q h f =
     rw (v, t, w)
     (ap (λ (z : List ℕ). set z (j + 2) (getD list j 0)) (append-snoc (take (j + 2) list) (getD list (j + 2) 0) r) ∙ set-at (take (j + 2) list) (getD list (j + 2) 0) r (getD list j 0) (j + 2) n)
 
+-- The length stays.
 length-rising : (list : List ℕ) (to i : ℕ) → i ≤ to → to + 2 ≤ length list → length (rising list to i) ≡ length list
 length-rising list to i h f = simp (length-append, length-take-le (i + 2) list (omega arith), length-slice i to list (omega arith), length-drop) (omega arith)
 
@@ -54,15 +57,19 @@ rising-done list at to start size h f =
 abbrev pub falling : List ℕ → ℕ → ℕ → List ℕ
 falling list at n = paste list at (drop (at + 2) list) n
 
+-- At first nothing has moved.
 pub falling-none : (list : List ℕ) (at : ℕ) → list ≡ falling list at 0
 falling-none list at = paste-zero list at (drop (at + 2) list)
 
+-- What stands before the word in hand.
 falling-head : (list : List ℕ) (at n : ℕ) → at + n + 2 ≤ length list → length (take at list ++ take n (drop (at + 2) list)) ≡ at + n
 falling-head list at n h = length-paste-head list at (drop (at + 2) list) n (omega arith) (omega (arith, length-drop (at + 2) list))
 
+-- The length stays.
 length-falling : (list : List ℕ) (at n : ℕ) → at + n + 2 ≤ length list → length (falling list at n) ≡ length list
 length-falling list at n h = length-paste list at (drop (at + 2) list) n (omega arith) (omega (arith, length-drop (at + 2) list))
 
+-- Each store moves one word down.
 pub falling-more : (list : List ℕ) (at i n m : ℕ) → at + n ≡ i → suc n ≡ m → i + 2 < length list → set (falling list at n) i (getD (falling list at n) (i + 2) 0) ≡ falling list at m
 falling-more list at i n m e q h =
     let s : List ℕ = drop (at + 2) list in

@@ -23,6 +23,7 @@ puts [] q k i x e = let h : i ≡ k = omega arith in rw h
 puts (y ∷ p) q k zero x e = absurd (omega arith)
 puts (y ∷ p) q k (suc i) x e = ap (λ (t : List _). y ∷ t) (puts p q k i x (omega arith))
 
+-- So does a part in front.
 takes : {A : Type 0} (p q : List A) (k i : ℕ) → length p + k ≡ i → take i (p ++ q) ≡ p ++ take k q
 takes p q k i e = rw (← e) (take-append-add p q k)
 
@@ -32,6 +33,7 @@ record Parts (n : ℕ) (list : List ℕ) (j : ℕ) (front back rest : List ℕ) 
   before : length front ≡ 2 * j
   behind : 2 * j + 2 + length back ≡ 2 * n
 
+-- Record j stands in such parts.
 parts : (n : ℕ) (list : List ℕ) (j : ℕ) → j < n → 2 * n ≤ length list
     → Parts n list j (flat (take j (records n list))) (flat (drop (suc j) (records n list))) (drop (2 * n) list) (intervalAt (records n list) j .start) (intervalAt (records n list) j .size)
 unfolding flat
@@ -84,11 +86,13 @@ Gave n list l count list′ = (count ≡ length l) × (list′ ≡ relisted n l 
 pub gave-same : (n : ℕ) (list : List ℕ) {l m : List Interval} {count : ℕ} {list′ : List ℕ} → l ≡ m → Gave n list l count list′ → Gave n list m count list′
 gave-same n list {count = count} {list′ = list′} e g = subst (λ (l : List Interval). Gave n list l count list′) e g
 
+-- A list that is k records shorter, written in two pieces, with its zeros.
 gave-less : (n : ℕ) (list : List ℕ) {count : ℕ} {list′ : List ℕ} (k : ℕ) (l m : List Interval) → length l + length m ≡ count → count + k ≡ n → list′ ≡ flat l ++ (flat m ++ (replicate (2 * k) 0 ++ drop (2 * n) list)) → Gave n list (l ++ m) count list′
 gave-less n list k l m h o t =
     let c : length (l ++ m) ≡ length l + length m = length-append l m in
     (omega arith, t ∙ sym (rw (relisted-less n k (l ++ m) list (omega arith), flat-append l m) (append-assoc (flat l) (flat m) (replicate (2 * k) 0 ++ drop (2 * n) list))))
 
+-- A list that is one record longer, written in two pieces.
 gave-more : (n : ℕ) (list : List ℕ) {list′ : List ℕ} (l m : List Interval) → length l + length m ≡ n + 1 → list′ ≡ flat l ++ (flat m ++ drop (2 * n + 2) list) → Gave n list (l ++ m) (n + 1) list′
 gave-more n list l m h t =
     let c : length (l ++ m) ≡ length l + length m = length-append l m in

@@ -47,7 +47,7 @@ fn comb(words: usize, list: &mut [u32]) -> usize {
     i
 }
 
-// A number that changes with any word of a list.
+// A sum over the words of a list in which each place has a weight of its own.
 fn sum(list: &[u32]) -> usize {
     let mut sum = 0;
     for i in 0..list.len() {
