@@ -5,15 +5,9 @@ use mathlib.Core.List.{List, [], _∷_, _++_, append-assoc}
 use native.Mathlib.Omega.{arith}
 use native.Mathlib.Numerals.{add-one}
 use lib.ListN.{length, getD, take, drop, set, take-append-drop, List·getD-append, length-append, length-drop}
-use lib.Seq.{slice, slice-empty, slice-cons, length-slice, length-take-le, take-suc, take-take, take-at, drop-at, take-append-le, getD-take, getD-drop, drop-drop, append-snoc, set-at, sets-eq, paste, paste-zero, paste-suc, length-paste, length-paste-head, getD-append-add, drop-append-add}
+use lib.Seq.{slice, slice-empty, slice-cons, length-slice, length-take-le, take-suc, take-take, take-at, drop-at, take-append-le, getD-take, getD-drop, drop-drop, append-snoc, set-at, sets-eq, paste, paste-zero, paste-suc, length-paste, length-paste-head}
 use Rattle.split.specs.Moves.{raised, lowered}
-
--- Behind p words a read and a cut go by the place in what follows.
-pub gets : {A : Type 0} (p q : List A) (k i : ℕ) (d : A) → length p + k ≡ i → getD (p ++ q) i d ≡ getD q k d
-gets p q k i d e = rw (← e) (getD-append-add p q k d)
-
-pub drops : {A : Type 0} (p q : List A) (k i : ℕ) → length p + k ≡ i → drop i (p ++ q) ≡ drop k q
-drops p q k i e = rw (← e) (drop-append-add p q k)
+use Rattle.split.specs.OffsetLaws.{gets, drops}
 
 -- Two stores side by side.
 pub two-stores : (list : List ℕ) (at x y : ℕ) → at + 2 ≤ length list → set (set list at x) (at + 1) y ≡ take at list ++ (x ∷ y ∷ drop (at + 2) list)
@@ -61,7 +55,7 @@ falling list at n = paste list at (drop (at + 2) list) n
 pub falling-none : (list : List ℕ) (at : ℕ) → list ≡ falling list at 0
 falling-none list at = paste-zero list at (drop (at + 2) list)
 
--- What stands before the word in hand.
+-- How many words stand before the one in hand.
 falling-head : (list : List ℕ) (at n : ℕ) → at + n + 2 ≤ length list → length (take at list ++ take n (drop (at + 2) list)) ≡ at + n
 falling-head list at n h = length-paste-head list at (drop (at + 2) list) n (omega arith) (omega (arith, length-drop (at + 2) list))
 

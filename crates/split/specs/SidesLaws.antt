@@ -1,10 +1,10 @@
 -- A record replaced by its sides: the four cases of a cut, as stores.
-use Prim.Native.Nat.{ℕ, zero, suc, _+_, _-_, _*_, _≤_, _<_}
+use Prim.Native.Nat.{ℕ, suc, _+_, _-_, _*_, _≤_, _<_}
 use mathlib.Core.Path.{_≡_, sym, ap, subst, _∙_}
 use mathlib.Core.List.{List, [], _∷_, _++_, append-assoc}
 use native.Mathlib.Omega.{arith}
 use lib.ListN.{length, take, drop, set, replicate, length-append, length-drop}
-use lib.Seq.{split-at, length-take-le, take-at, take-append-seam, drop-append-seam, take-append-add}
+use lib.Seq.{split-at, length-take-le, take-at, take-append-seam, drop-append-seam}
 use Rattle.layout.specs.declared.Interval.{Interval}
 use Rattle.layout.specs.Intervals.{flat}
 use Rattle.runs.specs.Runs.{kept}
@@ -15,17 +15,13 @@ use Rattle.freelist.specs.RecordsLaws.{length-records, record-at, records-flat}
 use Rattle.split.specs.Relisted.{relisted}
 use Rattle.split.specs.Moves.{raised, lowered}
 use Rattle.split.specs.RelistedLaws.{length-flat, flat-append, relisted-less, relisted-more}
-use Rattle.split.specs.MovesLaws.{drops}
+use Rattle.split.specs.OffsetLaws.{puts, takes, drops}
 
--- Behind p words a store goes by the place in what follows.
-puts : {A : Type 0} (p q : List A) (k i : ℕ) (x : A) → length p + k ≡ i → set (p ++ q) i x ≡ p ++ set q k x
-puts [] q k i x e = let h : i ≡ k = omega arith in rw h
-puts (y ∷ p) q k zero x e = absurd (omega arith)
-puts (y ∷ p) q k (suc i) x e = ap (λ (t : List _). y ∷ t) (puts p q k i x (omega arith))
-
--- So does a part in front.
-takes : {A : Type 0} (p q : List A) (k i : ℕ) → length p + k ≡ i → take i (p ++ q) ≡ p ++ take k q
-takes p q k i e = rw (← e) (take-append-add p q k)
+-- How many records stand before record j of n, and how many behind it.
+around : (n : ℕ) (list : List ℕ) (j : ℕ) → j < n → (length (take j (records n list)) ≡ j) × (suc j + length (drop (suc j) (records n list)) ≡ n)
+around n list j h =
+    let all : length (records n list) ≡ n = length-records n list in
+    (length-take-le j (records n list) (omega arith), omega (arith, length-drop (suc j) (records n list)))
 
 -- The words around record j of n: those before it, its two, those behind it, and the rest.
 record Parts (n : ℕ) (list : List ℕ) (j : ℕ) (front back rest : List ℕ) (u v : ℕ) : Type 0 where
@@ -39,16 +35,15 @@ parts : (n : ℕ) (list : List ℕ) (j : ℕ) → j < n → 2 * n ≤ length lis
 unfolding flat
 parts n list j h f =
     let l : List Interval = records n list in
-    let c : length l ≡ n = length-records n list in
     let front : List Interval = take j l in
     let back : List Interval = drop (suc j) l in
     let rest : List ℕ = drop (2 * n) list in
     record {
       same =
-          records-flat n list f ∙ ap (λ (t : List Interval). flat t ++ rest) (split-at l j nowhere (omega arith)) ∙ ap (λ (t : List ℕ). t ++ rest) (flat-append front (intervalAt l j ∷ back))
+          records-flat n list f ∙ ap (λ (t : List Interval). flat t ++ rest) (split-at l j nowhere (omega (arith, length-records n list))) ∙ ap (λ (t : List ℕ). t ++ rest) (flat-append front (intervalAt l j ∷ back))
           ∙ append-assoc (flat front) (flat (intervalAt l j ∷ back)) rest;
-      before = omega (arith, length-flat front, length-take-le j l (omega arith));
-      behind = omega (arith, length-flat back, length-drop (suc j) l);
+      before = omega (arith, length-flat front, around n list j h);
+      behind = omega (arith, length-flat back, around n list j h);
     }
 
 module _ {n : ℕ} {list : List ℕ} {j : ℕ} {front back rest : List ℕ} {u v : ℕ} (w : Parts n list j front back rest u v) where
@@ -109,37 +104,32 @@ module _ (k left next right n : ℕ) (list : List ℕ) (j : ℕ) (h : j < n) (f 
   abbrev from : ℕ
   from = intervalAt (records n list) j .start
 
-  lengths : (length front ≡ j) × (suc j + length back ≡ n)
-  lengths =
-      let c : length (records n list) ≡ n = length-records n list in
-      (length-take-le j (records n list) (omega arith), omega (arith, length-drop (suc j) (records n list)))
-
   -- Both sides are kept.
   pub both-sides : k ≤ left → k ≤ right → Gave n list (sides k left next right (records n list) j) (n + 1) (set (raised (2 * j + 2) (2 * n) next right list) (2 * j + 1) left)
   unfolding flat
   both-sides y z =
       rw (kept-long k next right back z, kept-long k from left (record { start = next; size = right } ∷ back) y)
-      (gave-more n list front (record { start = from; size = left } ∷ record { start = next; size = right } ∷ back) (omega (arith, lengths)) (stored-behind (parts n list j h f) left next right))
+      (gave-more n list front (record { start = from; size = left } ∷ record { start = next; size = right } ∷ back) (omega (arith, around n list j h)) (stored-behind (parts n list j h f) left next right))
 
   -- The left side is.
   pub left-side : k ≤ left → right < k → Gave n list (sides k left next right (records n list) j) n (set list (2 * j + 1) left)
   unfolding flat
   left-side y z =
       rw (kept-short k next right back z, kept-long k from left back y)
-      (gave-less n list 0 front (record { start = from; size = left } ∷ back) (omega (arith, lengths)) (omega arith) (stored-size (parts n list j h f) left))
+      (gave-less n list 0 front (record { start = from; size = left } ∷ back) (omega (arith, around n list j h)) (omega arith) (stored-size (parts n list j h f) left))
 
   -- The right side is.
   pub right-side : left < k → k ≤ right → Gave n list (sides k left next right (records n list) j) n (set (set list (2 * j) next) (2 * j + 1) right)
   unfolding flat
   right-side y z =
       rw (kept-long k next right back z, kept-short k from left (record { start = next; size = right } ∷ back) y)
-      (gave-less n list 0 front (record { start = next; size = right } ∷ back) (omega (arith, lengths)) (omega arith) (stored-both (parts n list j h f) next right))
+      (gave-less n list 0 front (record { start = next; size = right } ∷ back) (omega (arith, around n list j h)) (omega arith) (stored-both (parts n list j h f) next right))
 
   -- Neither is.
   pub no-side : left < k → right < k → (i count : ℕ) → 2 * j + 2 + i ≡ 2 * n → count + 1 ≡ n → Gave n list (sides k left next right (records n list) j) count (lowered (2 * j) i list)
   unfolding flat
   no-side y z i count o t =
-      rw (kept-short k next right back z, kept-short k from left back y) (gave-less n list 1 front back (omega (arith, lengths)) t (stored-none (parts n list j h f) i o))
+      rw (kept-short k next right back z, kept-short k from left back y) (gave-less n list 1 front back (omega (arith, around n list j h)) t (stored-none (parts n list j h f) i o))
 
 -- What contains words is a record.
 pub in-place : (n : ℕ) (list : List ℕ) (a s j : ℕ) → In (records n list) a s j → j < n
@@ -174,7 +164,6 @@ pub front-fits : (k next right n : ℕ) (list : List ℕ) (j : ℕ) → 1 ≤ k 
 front-fits k next right n list j some h f =
     let front : List Interval = take j (records n list) in
     let back : List Interval = drop (suc j) (records n list) in
-    let before : length front ≡ j = length-take-le j (records n list) (omega (arith, length-records n list)) in
-    let behind : suc j + length back ≡ n = omega (arith, length-records n list, length-drop (suc j) (records n list)) in
+    let lengths = around n list j h in
     rw (kept-short k (intervalAt (records n list) j .start) 0 (kept k next right back) some, length-append front (kept k next right back))
-    (kept-cases (λ m. 2 * (length front + length m) ≤ length list) k next right back (λ y. omega arith) (λ x. omega arith))
+    (kept-cases (λ m. 2 * (length front + length m) ≤ length list) k next right back (λ y. omega (arith, lengths)) (λ x. omega (arith, lengths)))

@@ -5,7 +5,7 @@ ghost use lib.ListN.{length};
 ghost use Rattle.split.specs.Moves.{raised, lowered};
 
 // The words from `at` up to `to` go up by two, and a record is stored in the gap.
-pub fn up(list: &mut [u32], at: usize, to: usize, start: u32, size: u32)
+pub(crate) fn up(list: &mut [u32], at: usize, to: usize, start: u32, size: u32)
     requires { ⌜ (at ≤ to) × (to + 2 ≤ length (now list)) ⌝ }
     ensures { λ _. ⌜ now (list .exit) ≡ raised at to start size (now (list .entry)) ⌝ }
 {
@@ -19,7 +19,7 @@ pub fn up(list: &mut [u32], at: usize, to: usize, start: u32, size: u32)
 }
 
 // The record at `at` goes, the n words behind it go down by two, and the record that they leave is zeroed.
-pub fn down(list: &mut [u32], at: usize, n: usize)
+pub(crate) fn down(list: &mut [u32], at: usize, n: usize)
     requires { ⌜ at + n + 2 ≤ length (now list) ⌝ }
     ensures { λ _. ⌜ now (list .exit) ≡ lowered at n (now (list .entry)) ⌝ }
 {

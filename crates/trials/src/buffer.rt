@@ -4,7 +4,7 @@ ghost use mathlib.Core.Path.{_≡_};
 ghost use lib.ListN.{length};
 
 // A buffer as long as the longest that a trial lends, full of junk.
-pub fn long() -> [u32; 131073]
+pub(crate) fn long() -> [u32; 131073]
     ensures { λ r. ⌜ 131073 ≡ length r ⌝ }
 {
     [7; 131073]
@@ -38,7 +38,7 @@ fn is_junk(words: &[u32], at: usize) -> bool {
 }
 
 // How many words at the front are first, second, and then zeros, if all behind them is junk; else 999999.
-pub fn written_over(words: &[u32], first: u32, second: u32) -> usize {
+pub(crate) fn written_over(words: &[u32], first: u32, second: u32) -> usize {
     let n = front(words, first, second);
     if is_junk(words, n) { n } else { 999999 }
 }

@@ -4,9 +4,9 @@ ghost use Prim.Native.Nat.{_<_, _≤_};
 ghost use lib.ListN.{length};
 
 // A line: the number in each place, where places are parted by a space, and where the line ends.
-pub struct Line {
-    pub place: [usize; 32],
-    pub end: usize,
+pub(crate) struct Line {
+    pub(crate) place: [usize; 32],
+    pub(crate) end: usize,
 }
 
 // A number with one more digit, or as it is where the byte is no digit or the number is large.
@@ -38,7 +38,7 @@ fn next(k: usize, byte: u8) -> usize
 }
 
 // The line that begins at `at`.
-pub fn line_at(text: &[u8], at: usize) -> Line
+pub(crate) fn line_at(text: &[u8], at: usize) -> Line
     requires { ⌜ at < length (now text) ⌝ }
     ensures { λ r. ⌜ (at ≤ r .end) × (r .end ≤ length (now (text .entry))) ⌝ }
 {
@@ -58,18 +58,18 @@ pub fn line_at(text: &[u8], at: usize) -> Line
 }
 
 // Prints " gave" and the numbers that came.
-pub fn gave(came: &[usize]) {
+pub(crate) fn gave(came: &[usize]) {
     io::write_all(STDOUT_FILENO, b" gave");
     numbers(came, b" ");
 }
 
 // Ends a line.
-pub fn end() {
+pub(crate) fn end() {
     io::write_all(STDOUT_FILENO, b"\n");
 }
 
 // Prints numbers, each behind a space.
-pub fn numbers(came: &[usize], space: &[u8]) {
+pub(crate) fn numbers(came: &[usize], space: &[u8]) {
     for i in 0..came.len() {
         io::write_all(STDOUT_FILENO, space);
         io::print_decimal(STDOUT_FILENO, came[i] as u64);
@@ -77,7 +77,7 @@ pub fn numbers(came: &[usize], space: &[u8]) {
 }
 
 // Prints the words of a list, each behind a space.
-pub fn words(list: &[u32], space: &[u8]) {
+pub(crate) fn words(list: &[u32], space: &[u8]) {
     for i in 0..list.len() {
         io::write_all(STDOUT_FILENO, space);
         io::print_decimal(STDOUT_FILENO, wide(list[i]) as u64);
@@ -85,7 +85,7 @@ pub fn words(list: &[u32], space: &[u8]) {
 }
 
 // A word as a number.
-pub fn wide(word: u32) -> usize
+pub(crate) fn wide(word: u32) -> usize
     ensures { λ r. ⌜ r < 4294967296 ⌝ }
 {
     word as usize

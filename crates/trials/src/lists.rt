@@ -142,7 +142,7 @@ fn in_part(kind: u8, place: [usize; 32], list: &mut [u32], words: usize, keep: u
 }
 
 // A trial of the list.
-pub fn trial(kind: u8, place: [usize; 32], list: &mut [u32]) {
+pub(crate) fn trial(kind: u8, place: [usize; 32], list: &mut [u32]) {
     let words = place[1];
     let keep = place[2];
     let rooms = Rooms::of(words, keep);

@@ -62,7 +62,7 @@ fn trial(kind: u8, place: [usize; 32]) {
 }
 
 // All lines, a trial each: prints the line, and behind it what came.
-pub fn all(text: &[u8]) {
+pub(crate) fn all(text: &[u8]) {
     let mut at = 0;
     while at < text.len() {
         let line = lines::line_at(text, at);
