@@ -5,6 +5,7 @@ ghost use lib.ListN.{length};
 ghost use Rattle.layout.specs.Limits.{listWords};
 ghost use Rattle.freelist.specs.Records.{recordAt, validList};
 use layout::Interval;
+use words::wide;
 
 // The interval in record j.
 pub fn at(list: &[u32], j: usize) -> Interval
@@ -16,13 +17,6 @@ pub fn at(list: &[u32], j: usize) -> Interval
     let start = wide(list[at]);
     let size = wide(list[at + 1]);
     Interval { start, size }
-}
-
-// A word as a number.
-fn wide(word: u32) -> usize
-    ensures { λ r. ⌜ (r ≡ word) × (r < 4294967296) ⌝ }
-{
-    word as usize
 }
 
 // Whether the count and the records below it pass refusal 3, in one pass that looks at nothing past the count.

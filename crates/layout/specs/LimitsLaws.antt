@@ -6,7 +6,8 @@ use mathlib.Core.Bool.{Bool, true, false, and-eq-true-iff}
 use mathlib.Mathlib.Data.Bool.Basic.{eq-true-of-not-eq-false}
 use native.Mathlib.Nat.{div-le-self}
 use native.Mathlib.Omega.{arith}
-use borrow.Author.Tests.{leb-true}
+use lib.Dec.{ltb}
+use borrow.Author.Tests.{leb-true, lt-ltb}
 use Rattle.layout.specs.Limits.{maxWords, maxKeep, within, mapWords, stackWords, listRoom, listWords, roomsOf}
 use Rattle.layout.specs.declared.Rooms.{Rooms}
 
@@ -56,6 +57,15 @@ module _ (h t : ℕ) {rooms : Rooms} (e : rooms ≡ roomsOf h t) where
       go true i = let needs : rooms .map ≡ mapWords h = rw (e, rooms-in h t i) in absurd (omega (arith, limits h t i))
       go false i = refl
 
+  -- So the map figure tells whether they are kept.
+  pub map-tells : ltb 0 (rooms .map) ≡ within h t
+  unfolding mapWords
+  map-tells = go (within h t) refl
+    where
+      go : (ok : Bool) → within h t ≡ ok → ltb 0 (rooms .map) ≡ ok
+      go true i = let needs : rooms .map ≡ mapWords h = rw (e, rooms-in h t i) in lt-ltb 0 (rooms .map) (omega (arith, limits h t i))
+      go false i = rw (e, rooms-out h t i)
+
   module _ (some : rooms .map ≢ 0) where
     -- Any other is given within them.
     pub allowed : within h t ≡ true
@@ -63,6 +73,9 @@ module _ (h t : ℕ) {rooms : Rooms} (e : rooms ≡ roomsOf h t) where
 
     pub map-needs : rooms .map ≡ mapWords h
     map-needs = rw (e, rooms-in h t allowed)
+
+    pub stack-needs : rooms .stack ≡ stackWords h t
+    stack-needs = rw (e, rooms-in h t allowed)
 
     pub list-needs : rooms .list ≡ listWords h t
     list-needs = rw (e, rooms-in h t allowed)

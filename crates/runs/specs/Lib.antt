@@ -7,3 +7,4 @@ pub mod OrderLaws
 pub mod CutLaws
 pub mod SumLaws
 pub mod CoverLaws
+pub mod FreeListLaws

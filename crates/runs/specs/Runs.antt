@@ -2,7 +2,9 @@
 use Prim.Native.Nat.{ℕ, zero, suc, _+_, _-_}
 use mathlib.Core.Bool.{Bool, cond}
 use mathlib.Core.List.{List, [], _∷_}
+use lib.ListN.{length}
 use lib.Dec.{leb}
+use Rattle.words.specs.Map.{covered}
 use Rattle.layout.specs.declared.Interval.{Interval}
 
 -- The n words from `at` on, in front of the rest of a list, if they have the keep length k.
@@ -17,3 +19,7 @@ runsFrom k cov at n (suc left) = cond (cov (at + n)) (kept k at n (runsFrom k co
 -- The sweep over words 1 to h-1.
 unfoldable pub runs : ℕ → ℕ → (ℕ → Bool) → List Interval
 runs k h cov = runsFrom k cov 1 0 (h - 1)
+
+-- The free list of a heap: the runs of words outside the objects on its map.
+unfoldable pub freeList : ℕ → List ℕ → List ℕ → List Interval
+freeList k heap map = runs k (length heap) (covered heap map)

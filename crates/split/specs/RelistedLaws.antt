@@ -39,6 +39,11 @@ relisted-more n k l list e =
     let long : length (flat l) + 0 ≡ 2 * n + 2 * k = omega (arith, length-flat l) in
     rw (zeros, length-append (flat l) [], long) (append-assoc (flat l) [] (drop (2 * n + 2 * k) list))
 
+-- A list shown fills its part.
+pub length-shown : (room : ℕ) (l : List Interval) → 2 * length l ≤ room → length (shown room l) ≡ room
+unfolding shown
+length-shown room l fits = omega (arith, length-append (flat l) (replicate (room - 2 * length l) 0), length-replicate {A = ℕ} (room - 2 * length l) 0, length-flat l)
+
 -- A list shown with zeros behind it is read back.
 pub records-shown : (room : ℕ) (l : List Interval) → records (length l) (shown room l) ≡ l
 unfolding shown

@@ -1,0 +1,4 @@
+pub mod Marking
+pub mod Invariant
+pub mod MeetLaws
+pub mod InvariantLaws

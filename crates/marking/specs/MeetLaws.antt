@@ -1,0 +1,76 @@
+-- Laws of meeting a reference.
+use Prim.Native.Nat.{ℕ, _+_, _-_, _≤_, _<_}
+use mathlib.Core.Path.{_≡_, refl}
+use mathlib.Core.Logic.{_≢_, _↔_}
+use mathlib.Core.Bool.{Bool, true, false, cond}
+use mathlib.Core.List.{List}
+use mathlib.Mathlib.Data.Bool.Basic.{eq-false-of-not-eq-true}
+use native.Mathlib.Omega.{arith}
+use lib.ListN.{length}
+use lib.Dec.{ltb, eqb}
+use borrow.Author.Tests.{eq-eqb, ne-eqb, lt-ltb, le-ltb, eqb-true, eqb-false, ltb-true, ltb-false}
+use Rattle.words.specs.Header.{sizeAt, wellFormed}
+use Rattle.words.specs.HeaderLaws.{Formed}
+use Rattle.words.specs.Map.{bitAt, someBelow, covered}
+use Rattle.words.specs.CoverLaws.{some-below, below-some}
+use Rattle.runs.specs.Runs.{freeList}
+use Rattle.runs.specs.Covers.{Free}
+use Rattle.runs.specs.Lists.{Holds}
+use Rattle.runs.specs.LongestLaws.{clash}
+use Rattle.runs.specs.FreeListLaws.{list-holds}
+use Rattle.marking.specs.Marking.{Marking, Outcome, overlaps, meet}
+use Rattle.marking.specs.Invariant.{New, Meets, empty, outside, again, ill-formed, overlapping, apart}
+
+-- An object overlaps none on the map if and only if all its words are free.
+overlaps-none : (heap map : List ℕ) (r : ℕ) → (overlaps heap map r ≡ false) ↔ Free (covered heap map) r (r + sizeAt heap r)
+unfolding overlaps
+overlaps-none heap map r = (free, none)
+  where
+    s : ℕ
+    s = sizeAt heap r
+
+    free : someBelow s (λ i. covered heap map (r + i)) ≡ false → Free (covered heap map) r (r + s)
+    free e w lo hi = eq-false-of-not-eq-true λ c.
+        let x : r + (w - r) ≡ w = omega arith in
+        clash (some-below s (λ i. covered heap map (r + i)) (w - r) (omega arith) (rw x c)) e
+
+    none : Free (covered heap map) r (r + s) → someBelow s (λ i. covered heap map (r + i)) ≡ false
+    none g = eq-false-of-not-eq-true λ e.
+        let x = below-some s (λ i. covered heap map (r + i)) e in
+        clash (x .2) (g (r + x .0) (omega arith) (omega (arith, x .1)))
+
+-- The search for its words in the list is the overlap test.
+pub overlaps-holds : (heap : List ℕ) (t : ℕ) (map : List ℕ) (r : ℕ) → 1 ≤ t → r ≢ 0 → Formed heap t r → (overlaps heap map r ≡ false) ↔ Holds (freeList t heap map) r (sizeAt heap r)
+overlaps-holds heap t map r keeps some f =
+    let x = overlaps-none heap map r in
+    let y = list-holds t heap map keeps r (sizeAt heap r) (f .least) (omega arith) (f .ends) in
+    (λ e. y .0 (x .0 e), λ g. x .1 (y .1 g))
+
+module _ {heap : List ℕ} {t : ℕ} {m : Marking} {r : ℕ} where
+  -- Each reason gives what the machine answers.
+  pub meets-meet : {o : Outcome} → Meets heap t m r o → o ≡ meet heap t m r
+  unfolding meet
+  meets-meet (empty e) = rw (eq-eqb r 0 e)
+  meets-meet (outside some l) = rw (ne-eqb r 0 some, le-ltb r (length heap) l)
+  meets-meet (again some l e) = rw (ne-eqb r 0 some, lt-ltb r (length heap) l, e)
+  meets-meet (ill-formed new e) = rw (ne-eqb r 0 (new .some), lt-ltb r (length heap) (new .inside), new .unmarked, e)
+  meets-meet (overlapping new well e) = rw (ne-eqb r 0 (new .some), lt-ltb r (length heap) (new .inside), new .unmarked, well, e)
+  meets-meet (apart new well e) = rw (ne-eqb r 0 (new .some), lt-ltb r (length heap) (new .inside), new .unmarked, well, e)
+
+-- A choice has a property where each side has it if taken.
+by-test : {A : Type 0} (P : A → Type 0) (test : Bool) {x y : A} → (test ≡ true → P x) → (test ≡ false → P y) → P (cond test x y)
+by-test P true p q = p refl
+by-test P false p q = q refl
+
+-- The machine's answer has its reason.
+pub meet-meets : (heap : List ℕ) (t : ℕ) (m : Marking) (r : ℕ) → Meets heap t m r (meet heap t m r)
+unfolding meet
+meet-meets heap t m r =
+    by-test (Meets heap t m r) (eqb r 0) (λ e. empty (eqb-true r 0 e)) λ none.
+    let some : r ≢ 0 = eqb-false r 0 none in
+    by-test (Meets heap t m r) (ltb r (length heap)) (λ below.
+    let l : r < length heap = ltb-true r (length heap) below in
+    by-test (Meets heap t m r) (bitAt (m .map) r) (again some l) λ unmarked.
+    let new : New heap (m .map) r = record { some = some; inside = l; unmarked = unmarked } in
+    by-test (Meets heap t m r) (wellFormed heap t r) (λ well. by-test (Meets heap t m r) (overlaps heap (m .map) r) (overlapping new well) (apart new well)) (ill-formed new))
+    (λ e. outside some (ltb-false r (length heap) e))

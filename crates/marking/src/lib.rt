@@ -1,0 +1,1 @@
+// Marking: definitions and laws alone, with no code.
