@@ -1,13 +1,12 @@
 -- Laws of the limits and of the room figures.
 use Prim.Native.Nat.{ℕ, _-_, _*_, _/_, _≤_, _<_}
-use mathlib.Core.Path.{_≡_, refl}
+use mathlib.Core.Path.{_≡_, refl, sym, _∙_}
 use mathlib.Core.Logic.{_≢_}
 use mathlib.Core.Bool.{Bool, true, false, and-eq-true-iff}
-use mathlib.Mathlib.Data.Bool.Basic.{eq-true-of-not-eq-false}
 use native.Mathlib.Nat.{div-le-self}
 use native.Mathlib.Omega.{arith}
 use lib.Dec.{ltb}
-use borrow.Author.Tests.{leb-true, lt-ltb}
+use borrow.Author.Tests.{leb-true, lt-ltb, le-ltb}
 use Rattle.layout.specs.Limits.{maxWords, maxKeep, within, mapWords, stackWords, listRoom, listWords, roomsOf}
 use Rattle.layout.specs.declared.Rooms.{Rooms}
 
@@ -48,16 +47,7 @@ rooms-small h t = go (within h t) refl
 
 -- What the figures that a call has worked out say of the limits.
 module _ (h t : ℕ) {rooms : Rooms} (e : rooms ≡ roomsOf h t) where
-  -- A map figure of 0 comes only out of the limits.
-  pub map-zero : rooms .map ≡ 0 → within h t ≡ false
-  unfolding mapWords
-  map-zero z = go (within h t) refl
-    where
-      go : (ok : Bool) → within h t ≡ ok → ok ≡ false
-      go true i = let needs : rooms .map ≡ mapWords h = rw (e, rooms-in h t i) in absurd (omega (arith, limits h t i))
-      go false i = refl
-
-  -- So the map figure tells whether they are kept.
+  -- The map figure tells whether they are kept.
   pub map-tells : ltb 0 (rooms .map) ≡ within h t
   unfolding mapWords
   map-tells = go (within h t) refl
@@ -66,10 +56,14 @@ module _ (h t : ℕ) {rooms : Rooms} (e : rooms ≡ roomsOf h t) where
       go true i = let needs : rooms .map ≡ mapWords h = rw (e, rooms-in h t i) in lt-ltb 0 (rooms .map) (omega (arith, limits h t i))
       go false i = rw (e, rooms-out h t i)
 
+  -- It is 0 only out of them.
+  pub map-zero : rooms .map ≡ 0 → within h t ≡ false
+  map-zero z = sym map-tells ∙ le-ltb 0 (rooms .map) (omega arith)
+
   module _ (some : rooms .map ≢ 0) where
-    -- Any other is given within them.
+    -- Any other is given within them, and then each figure is what is needed.
     pub allowed : within h t ≡ true
-    allowed = eq-true-of-not-eq-false (λ out. some (rw (e, rooms-out h t out)))
+    allowed = sym map-tells ∙ lt-ltb 0 (rooms .map) (omega arith)
 
     pub map-needs : rooms .map ≡ mapWords h
     map-needs = rw (e, rooms-in h t allowed)

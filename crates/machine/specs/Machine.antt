@@ -10,7 +10,7 @@ use Rattle.layout.specs.LimitsLaws.{Limits}
 use Rattle.layout.specs.SetUp.{firstList}
 use Rattle.runs.specs.Runs.{freeList}
 use Rattle.marking.specs.Marking.{Marking, Outcome, going, done, refused, meet, move, collection}
-use Rattle.marking.specs.Invariant.{Room, Sane}
+use Rattle.marking.specs.Invariant.{Room, Invariant}
 use Rattle.machine.specs.declared.Progress.{Progress}
 use Rattle.machine.specs.declared.Step.{Step}
 use Rattle.machine.specs.declared.Step.the-variants.{Going, Done, Refused}
@@ -91,7 +91,7 @@ pub record Met (heap : List ℕ) (t : ℕ) (map stack : List ℕ) (p : Progress)
 pub record Ready (heap : List ℕ) (t : ℕ) (roots map stack list : List ℕ) (p : Progress) : Type 0 where
   pub fit : Fit heap t map stack list p
   pub few : length roots ≤ 65536
-  pub sane : Sane heap t roots (markingOf heap roots map stack p)
+  pub invariant : Invariant heap t roots (markingOf heap roots map stack p)
 
 -- A move was made as the machine makes it.
 pub record Moved (heap : List ℕ) (t : ℕ) (roots map stack : List ℕ) (p : Progress) (map′ stack′ list′ : List ℕ) (o : Step) : Type 0 where

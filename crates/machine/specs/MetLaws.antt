@@ -20,7 +20,8 @@ use Rattle.freelist.specs.declared.search.Found.{Found}
 use Rattle.freelist.specs.declared.search.Found.the-variants.{At, Nothing}
 use Rattle.split.specs.Relisted.{relisted}
 use Rattle.marking.specs.Marking.{going, marked, overlaps}
-use Rattle.marking.specs.Invariant.{New, empty, outside, again, ill-formed, overlapping, apart, Room}
+use Rattle.marking.specs.Meets.{New, empty, outside, again, ill-formed, overlapping, apart}
+use Rattle.marking.specs.Invariant.{Room}
 use Rattle.marking.specs.MeetLaws.{overlaps-holds, meets-meet}
 use Rattle.marking.specs.InvariantLaws.{depth-room, objects-room, room-marked}
 use Rattle.machine.specs.Machine.{pile, Shows, Meeting, noted, Noting, Met}

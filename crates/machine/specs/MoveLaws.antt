@@ -60,7 +60,7 @@ module _ {heap : List ℕ} {t : ℕ} {roots map stack list : List ℕ} {p : Prog
   module _ (some : 0 < p .left) where
     -- It can be met.
     pub meeting-field : Meeting heap t map stack list (afterField p)
-    meeting-field = record { fit = record { limits = x .fit .limits; stack-size = x .fit .stack-size; in-hand = omega (arith, x .fit .in-hand); shows = x .fit .shows }; room = x .sane .room }
+    meeting-field = record { fit = record { limits = x .fit .limits; stack-size = x .fit .stack-size; in-hand = omega (arith, x .fit .in-hand); shows = x .fit .shows }; room = x .invariant .room }
 
     -- It was met.
     pub moved-field : {r : ℕ} {map′ stack′ list′ : List ℕ} {o : Step} → r ≡ getD heap (p .at) 0 → Met heap t map stack (afterField p) r map′ stack′ list′ o → Moved heap t roots map stack p map′ stack′ list′ o
@@ -73,12 +73,12 @@ module _ {heap : List ℕ} {t : ℕ} {roots map stack list : List ℕ} {p : Prog
     module _ (some : 0 < p .depth) where
       top-formed : Formed heap t (getD stack (p .depth - 1) 0)
       top-formed =
-          let all : AllFormed heap t (getD stack (p .depth - 1) 0 ∷ pile stack (p .depth - 1)) = rw (pile-top stack (p .depth) some) at (x .sane .room .formed) in
+          let all : AllFormed heap t (getD stack (p .depth - 1) 0 ∷ pile stack (p .depth - 1)) = rw (pile-top stack (p .depth) some) at (x .invariant .room .formed) in
           all .0
 
       -- The last pushed can be read.
       pub top-inside : p .depth - 1 < length stack
-      top-inside = omega (arith, length-pile stack (p .depth), x .fit .stack-size, depth-room heap t (x .fit .limits .keeps) (x .sane .room))
+      top-inside = omega (arith, length-pile stack (p .depth), x .fit .stack-size, depth-room heap t (x .fit .limits .keeps) (x .invariant .room))
 
       -- The stack is short.
       pub top-small : p .depth - 1 < 65536

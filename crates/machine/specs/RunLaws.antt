@@ -8,7 +8,7 @@ use Rattle.layout.specs.Limits.{mapWords}
 use Rattle.runs.specs.FreeListLaws.{list-first}
 use Rattle.marking.specs.Marking.{going, done, refused, move, run, begin, collection}
 use Rattle.marking.specs.Invariant.{ahead, Still}
-use Rattle.marking.specs.InvariantLaws.{run-done, run-refused, Less, move-sane, begin-sane, begin-ahead}
+use Rattle.marking.specs.InvariantLaws.{run-done, run-refused, Less, move-less, begin-holds, begin-ahead}
 use Rattle.machine.specs.Machine.{pile, markingOf, outcomeOf, Ready, Moved, Begun, Ran}
 use Rattle.machine.specs.declared.Progress.{Progress}
 use Rattle.machine.specs.declared.Step.{Step}
@@ -44,7 +44,7 @@ module _ {heap : List ℕ} {t : ℕ} {roots map stack list : List ℕ} {count : 
         shows = rw (b .map-clear) (record { count = rw (list-first t heap (mapWords (length heap))) (b .count-first); words = rw (list-first t heap (mapWords (length heap))) (b .list-first) });
       };
       few = b .few;
-      sane = rw begins (begin-sane heap t (b .limits .keeps) roots);
+      invariant = rw begins (begin-holds heap t (b .limits .keeps) roots);
     };
     left = suc (length roots + length heap);
     enough = rw begins (omega (arith, begin-ahead heap t (b .limits .keeps) roots));
@@ -68,7 +68,7 @@ module _ {heap : List ℕ} {t : ℕ} {roots map stack list : List ℕ} {p : Prog
     rest = rw (y .same) (onward .2)
 
     kept : Still (Less heap t (x .ready .fit .limits .keeps) roots (ahead heap (markingOf heap roots map stack p))) (outcomeOf heap roots map′ stack′ o)
-    kept = rw (y .same) (move-sane heap t (x .ready .fit .limits .keeps) roots (markingOf heap roots map stack p) (x .ready .sane))
+    kept = rw (y .same) (move-less heap t (x .ready .fit .limits .keeps) roots (markingOf heap roots map stack p) (x .ready .invariant))
 
     module _ {q : Progress} (e : o ≡ Going q) where
       -- Where it goes on less is ahead.
@@ -78,7 +78,7 @@ module _ {heap : List ℕ} {t : ℕ} {roots map stack list : List ℕ} {p : Prog
       -- The next turn.
       pub turn-next : Turn heap t roots map′ stack′ list′ q
       turn-next = record {
-        ready = record { fit = rw e at (y .fit); few = x .ready .few; sane = (rw e at kept) .0 };
+        ready = record { fit = rw e at (y .fit); few = x .ready .few; invariant = (rw e at kept) .0 };
         left = onward .0;
         enough = omega (arith, turn-less, x .enough, onward .1);
         goes = rw e at rest;

@@ -10,14 +10,15 @@ use Rattle.words.specs.Header.{sizeAt, refsAt, wellFormed, fieldsOf}
 use Rattle.words.specs.HeaderLaws.{Formed, formed, length-fields}
 use Rattle.words.specs.Map.{setBit}
 use Rattle.words.specs.MapLaws.{length-setBit}
-use Rattle.layout.specs.Limits.{mapWords, stackWords}
+use Rattle.layout.specs.Limits.{mapWords, stackWords, listWords}
 use Rattle.layout.specs.LimitsLaws.{bit-inside}
 use Rattle.runs.specs.Runs.{freeList}
 use Rattle.runs.specs.Lists.{Holds, listed}
 use Rattle.runs.specs.SumLaws.{cut-listed}
-use Rattle.runs.specs.FreeListLaws.{list-listed, list-cut}
+use Rattle.runs.specs.FreeListLaws.{list-listed, list-fits, list-cut}
 use Rattle.marking.specs.Marking.{Marking, Outcome, going, done, refused, marked, overlaps, meet, leaving, move, run, begin, collection}
-use Rattle.marking.specs.Invariant.{New, Meets, empty, outside, again, ill-formed, overlapping, apart, behind, queue, Room, Sane, ahead, Still, Ended}
+use Rattle.marking.specs.Meets.{New, Meets, empty, outside, again, ill-formed, overlapping, apart}
+use Rattle.marking.specs.Invariant.{behind, queue, Room, Invariant, ahead, Still, Ended}
 use Rattle.marking.specs.MeetLaws.{overlaps-holds, meet-meets}
 
 -- What is done stays so.
@@ -78,7 +79,7 @@ module _ (heap : List ℕ) (t : ℕ) (keeps : 1 ≤ t) where
   module _ (roots : List ℕ) where
     -- The invariant holds, and less is ahead than n.
     abbrev pub Less : ℕ → Marking → Type 0
-    Less n m = Sane heap t roots m × (ahead heap m < n)
+    Less n m = Invariant heap t roots m × (ahead heap m < n)
 
     -- Meeting a reference keeps that.
     met-less : {n : ℕ} {m : Marking} {r : ℕ} {o : Outcome} → Less n m → Meets heap t m r o → Still (Less n) o
@@ -100,7 +101,7 @@ module _ (heap : List ℕ) (t : ℕ) (keeps : 1 ≤ t) where
     met-next {m = m} r g = met-less g (meet-meets heap t m r)
 
     -- One move keeps the invariant, and less is ahead: by what is left to read.
-    moves : (m : Marking) (todo stack left : List ℕ) → let now : Marking = leaving m todo stack left (m .references) in Sane heap t roots now → Still (Less (ahead heap now)) (move heap t now)
+    moves : (m : Marking) (todo stack left : List ℕ) → let now : Marking = leaving m todo stack left (m .references) in Invariant heap t roots now → Still (Less (ahead heap now)) (move heap t now)
     unfolding move queue behind ahead
     moves m (r ∷ todo) stack left g = met-next r (record { room = g .room; read = omega (arith, g .read) }, omega arith)
     moves m [] (a ∷ stack) left g =
@@ -110,13 +111,13 @@ module _ (heap : List ℕ) (t : ℕ) (keeps : 1 ≤ t) where
     moves m [] [] [] g = tt
 
     -- One move keeps the invariant, and less is ahead.
-    pub move-sane : (m : Marking) → Sane heap t roots m → Still (Less (ahead heap m)) (move heap t m)
-    move-sane m g = moves m (m .todo) (m .stack) (m .roots) g
+    pub move-less : (m : Marking) → Invariant heap t roots m → Still (Less (ahead heap m)) (move heap t m)
+    move-less m g = moves m (m .todo) (m .stack) (m .roots) g
 
     -- It holds at the beginning.
-    pub begin-sane : Sane heap t roots (begin heap t roots)
+    pub begin-holds : Invariant heap t roots (begin heap t roots)
     unfolding begin queue behind
-    begin-sane = record {
+    begin-holds = record {
       room = record {
         sized = length-replicate (mapWords (length heap)) 0;
         words = omega (arith, list-listed t heap (replicate (mapWords (length heap)) 0));
@@ -132,17 +133,29 @@ module _ (heap : List ℕ) (t : ℕ) (keeps : 1 ≤ t) where
     unfolding begin queue behind ahead
     begin-ahead = omega arith
 
+    -- It holds at every moment.
+    always : (n : ℕ) (o : Outcome) → Still (Invariant heap t roots) o → Still (Invariant heap t roots) (run n heap t o)
+    unfolding run
+    always zero o g = g
+    always (suc n) (going m) g = always n (move heap t m) (still (λ k x. x .0) (move heap t m) (move-less m g))
+    always (suc n) (done m) g = tt
+    always (suc n) (refused c r) g = tt
+
+    -- At every moment stack and list have room in their needed parts.
+    pub always-room : (n : ℕ) → Still (λ (m : Marking). (length (m .stack) ≤ stackWords (length heap) t) × (2 * length (freeList t heap (m .map)) ≤ listWords (length heap) t)) (run n heap t (going (begin heap t roots)))
+    always-room n = still (λ m g. (depth-room (g .room), list-fits t heap (m .map) keeps)) (run n heap t (going (begin heap t roots))) (always n (going (begin heap t roots)) begin-holds)
+
     -- With more moves than are ahead a collection has ended.
     run-ends : (n : ℕ) (o : Outcome) → Still (Less n) o → Ended (run n heap t o)
     unfolding run
     run-ends zero (going m) g = omega (arith, g .1)
     run-ends zero (done m) g = tt
     run-ends zero (refused c r) g = tt
-    run-ends (suc n) (going m) g = run-ends n (move heap t m) (still (λ k x. (x .0, omega (arith, x .1, g .1))) (move heap t m) (move-sane m (g .0)))
+    run-ends (suc n) (going m) g = run-ends n (move heap t m) (still (λ k x. (x .0, omega (arith, x .1, g .1))) (move heap t m) (move-less m (g .0)))
     run-ends (suc n) (done m) g = tt
     run-ends (suc n) (refused c r) g = tt
 
     -- Every collection ends.
     pub ends : Ended (collection heap t roots)
     unfolding collection
-    ends = run-ends (suc (length roots + length heap)) (going (begin heap t roots)) (begin-sane, omega (arith, begin-ahead))
+    ends = run-ends _ (going (begin heap t roots)) (begin-holds, omega (arith, begin-ahead))

@@ -1,4 +1,5 @@
 pub mod Marking
+pub mod Meets
 pub mod Invariant
 pub mod MeetLaws
 pub mod InvariantLaws

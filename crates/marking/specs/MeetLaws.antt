@@ -19,7 +19,7 @@ use Rattle.runs.specs.Lists.{Holds}
 use Rattle.runs.specs.LongestLaws.{clash}
 use Rattle.runs.specs.FreeListLaws.{list-holds}
 use Rattle.marking.specs.Marking.{Marking, Outcome, overlaps, meet}
-use Rattle.marking.specs.Invariant.{New, Meets, empty, outside, again, ill-formed, overlapping, apart}
+use Rattle.marking.specs.Meets.{New, Meets, empty, outside, again, ill-formed, overlapping, apart}
 
 -- An object overlaps none on the map if and only if all its words are free.
 overlaps-none : (heap map : List ℕ) (r : ℕ) → (overlaps heap map r ≡ false) ↔ Free (covered heap map) r (r + sizeAt heap r)
