@@ -5,23 +5,9 @@ The answers are worked out here from the rules alone, and not the way the proved
 were taken off is found by a sweep over a bitmap of the whole heap; the record that holds words, by looking at every one.
 With --check nothing is written: the two files must be there as they would be written.
 """
-import os
 import random
-import sys
 
-MAX_WORDS, MAX_KEEP = 65536, 65535
-lines = []
-
-
-def say(*line, gave=()):
-    lines.append((" ".join(map(str, line)), "".join(f" {n}" for n in gave), bool(gave)))
-
-
-def rooms(h, t):
-    if not (1 <= h <= MAX_WORDS and 1 <= t <= MAX_KEEP):
-        return 0, 0, 0
-    most = (h - 1) // t
-    return -(-h // 32), most, 2 * most
+from rules import flat, lines, rooms, say, settle, shown, sweep
 
 
 def set_up(h, t, m, n):
@@ -50,24 +36,6 @@ def figures(records):
     return listed, largest, 1000 - 1000 * largest // listed if listed else 0
 
 
-def sweep(free, t):
-    """The longest runs of free words with t words or more; free[0] is no word of a run."""
-    runs, start = [], None
-    for w in range(1, len(free) + 1):
-        if w < len(free) and free[w]:
-            if start is None:
-                start = w
-        elif start is not None:
-            if w - start >= t:
-                runs.append((start, w - start))
-            start = None
-    return runs
-
-
-def flat(records):
-    return [n for record in records for n in record]
-
-
 def bitmap(h, records):
     free = [False] * h
     for start, size in records:
@@ -87,15 +55,8 @@ def after(h, t, records, words, a, s):
     return len(left), new + words[len(new):]
 
 
-def total(words):
-    n = 0
-    for word in words:
-        n = (31 * n + word) % 1000003
-    return n
-
-
 def report(place, count, words):
-    return [1, place, count, total(words)] + (words if len(words) <= 40 else [])
+    return [1, place, count] + shown(words)
 
 
 def part(h, t, count, records):
@@ -260,15 +221,4 @@ list_lines()
 cut_lines()
 random_lines(random.Random(2006))
 comb_lines()
-folder = os.path.join(os.path.dirname(os.path.abspath(__file__)), "..", "crates", "trials")
-texts = {
-    "stdin": "".join(line + "\n" for line, _, _ in lines),
-    "stdout": "".join(line + (" gave" + gave if came else "") + "\n" for line, gave, came in lines),
-}
-for name, text in texts.items():
-    path = os.path.join(folder, name)
-    if sys.argv[1:] != ["--check"]:
-        with open(path, "w") as file:
-            file.write(text)
-    elif open(path).read() != text:
-        sys.exit(f"hosts/trials.py: crates/trials/{name} is not what the rules give")
+settle("trials")

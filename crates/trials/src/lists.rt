@@ -1,5 +1,4 @@
 // Trials of the free list. A line gives words, keep, a, s, the count, and the records; what it does not give is 9.
-use crate::lines;
 use freelist::Figures;
 use freelist::records;
 use freelist::search;
@@ -12,18 +11,18 @@ ghost use Rattle.layout.specs.Limits.{within, listWords};
 ghost use Rattle.freelist.specs.Records.{validList};
 
 // Word i of the list that a line gives.
-fn given(place: [usize; 32], i: usize) -> u32 {
+fn given(place: [usize; 48], i: usize) -> u32 {
     if place[5] <= i / 2 {
         return 9;
     }
-    if 26 <= i {
+    if 42 <= i {
         return 9;
     }
     (place[6 + i] % 4294967296) as u32
 }
 
 // Writes the list that a line gives.
-fn write(place: [usize; 32], list: &mut [u32]) {
+fn write(place: [usize; 48], list: &mut [u32]) {
     for i in 0..list.len() {
         list[i] = given(place, i);
     }
@@ -47,21 +46,10 @@ fn comb(words: usize, list: &mut [u32]) -> usize {
     i
 }
 
-// A sum over the words of a list in which each place has a weight of its own.
-fn sum(list: &[u32]) -> usize {
-    let mut sum = 0;
-    for i in 0..list.len() {
-        sum = (sum * 31 + lines::wide(list[i])) % 1000003;
-    }
-    sum
-}
-
 // Prints the record's place, the new count, a sum over the words of the list and, of a short list, all of them.
 fn report(j: usize, count: usize, list: &[u32]) {
-    lines::gave(&[1, j, count, sum(list)]);
-    if list.len() <= 40 {
-        lines::words(list, b" ");
-    }
+    lines::gave(&[1, j, count]);
+    lines::buffer(list);
 }
 
 // The survey's figures. Came: 1 and listed, largest, fragment.
@@ -106,7 +94,7 @@ fn front(list: &mut [u32], count: usize, words: usize, keep: usize, s: usize)
 }
 
 // The list of a trial: a comb for c, else the one that the line gives. The count.
-fn laid(kind: u8, place: [usize; 32], list: &mut [u32]) -> usize {
+fn laid(kind: u8, place: [usize; 48], list: &mut [u32]) -> usize {
     if kind == b'c' {
         return comb(place[1], list);
     }
@@ -130,7 +118,7 @@ fn passed(kind: u8, list: &mut [u32], count: usize, words: usize, keep: usize, a
 }
 
 // A trial in the needed part of the list. Came: 0 where refusal 3 is given.
-fn in_part(kind: u8, place: [usize; 32], list: &mut [u32], words: usize, keep: usize)
+fn in_part(kind: u8, place: [usize; 48], list: &mut [u32], words: usize, keep: usize)
     requires { ⌜ (within words keep ≡ true) × (length (now list) ≡ listWords words keep) ⌝ }
 {
     let count = laid(kind, place, list);
@@ -142,7 +130,7 @@ fn in_part(kind: u8, place: [usize; 32], list: &mut [u32], words: usize, keep: u
 }
 
 // A trial of the list.
-pub(crate) fn trial(kind: u8, place: [usize; 32], list: &mut [u32]) {
+pub(crate) fn trial(kind: u8, place: [usize; 48], list: &mut [u32]) {
     let words = place[1];
     let keep = place[2];
     let rooms = Rooms::of(words, keep);

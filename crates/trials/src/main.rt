@@ -1,6 +1,5 @@
 // Trials: the proved code run on the lines of standard input, one trial a line, and what came printed behind it.
 mod buffer;
-mod lines;
 mod lists;
 mod rows;
 

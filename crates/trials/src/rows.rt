@@ -1,6 +1,5 @@
 // The trials: the first letter of a line says which. r asks for room figures, s for a set-up, any other is for the list.
 use crate::buffer;
-use crate::lines;
 use crate::lists;
 use layout::Rooms;
 use layout::SetUp;
@@ -29,7 +28,7 @@ fn set_up(heap: &[u32], keep: usize, map: &mut [u32], list: &mut [u32]) {
 }
 
 // The same, in parts of the buffers as long as the line says. A line that asks for more gives nothing.
-fn set_up_in(place: [usize; 32], heap: &[u32], map: &mut [u32], list: &mut [u32]) {
+fn set_up_in(place: [usize; 48], heap: &[u32], map: &mut [u32], list: &mut [u32]) {
     let h = place[1];
     let m = place[3];
     let n = place[4];
@@ -46,7 +45,7 @@ fn set_up_in(place: [usize; 32], heap: &[u32], map: &mut [u32], list: &mut [u32]
 }
 
 // One trial.
-fn trial(kind: u8, place: [usize; 32]) {
+fn trial(kind: u8, place: [usize; 48]) {
     if kind == b'r' {
         rooms(place[1], place[2]);
         return;

@@ -1,12 +1,12 @@
--- `lines::line_at` is safe and ends, and stays within the text.
+-- `line_at` is safe and ends, and stays within the text.
 use Prim.Native.Nat.{_-_, _≤_}
 use lib.ListN.{length}
 use borrow.Author.Needs.{needs}
-use Rattle.trials.proofs.lines.line_at.Statement.{statement}
-use Rattle.trials.proofs.lines.line_at.Tie as tie
+use Rattle.lines.proofs.line_at.Statement.{statement}
+use Rattle.lines.proofs.line_at.Tie as tie
 
 abbrev Inv-loop : tie.InvT-loop
-Inv-loop text at place₀ k₀ end₀ place k end = (at ≤ end) × (end ≤ length text) × (k ≤ 31)
+Inv-loop text at place₀ k₀ end₀ place k end = (at ≤ end) × (end ≤ length text) × (k ≤ 47)
 
 abbrev μ-loop : tie.MeasureT-loop
 μ-loop text at place₀ k₀ end₀ place k end = length text - end

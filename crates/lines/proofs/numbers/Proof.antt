@@ -1,8 +1,8 @@
--- `lines::numbers` is safe and ends.
+-- `numbers` is safe and ends.
 use Prim.Native.Nat.{_-_, _≤_}
 use borrow.Author.Needs.{needs}
-use Rattle.trials.proofs.lines.numbers.Statement.{statement}
-use Rattle.trials.proofs.lines.numbers.Tie as tie
+use Rattle.lines.proofs.numbers.Statement.{statement}
+use Rattle.lines.proofs.numbers.Tie as tie
 
 abbrev Inv-loop : tie.InvT-loop
 Inv-loop came space i₀ i-end i = i ≤ i-end

@@ -1,20 +1,20 @@
--- `lists::sum` is safe and ends: the sum stays small.
-use Prim.Native.Nat.{_-_, _≤_, _<_}
+-- `all_words` is safe and ends.
+use Prim.Native.Nat.{_-_, _≤_}
 use borrow.Author.Needs.{needs}
-use Rattle.trials.proofs.lists.sum.Statement.{statement}
-use Rattle.trials.proofs.lists.sum.Tie as tie
+use Rattle.lines.proofs.all_words.Statement.{statement}
+use Rattle.lines.proofs.all_words.Tie as tie
 
 abbrev Inv-loop : tie.InvT-loop
-Inv-loop list sum₀ i₀ i-end sum i = (i ≤ i-end) × (sum < 1000003)
+Inv-loop list space i₀ i-end i = i ≤ i-end
 
 abbrev μ-loop : tie.MeasureT-loop
-μ-loop list sum₀ i₀ i-end sum i = i-end - i
+μ-loop list space i₀ i-end i = i-end - i
 
 loop-holds : tie.Need-loop-holds Inv-loop μ-loop
 loop-holds c = search needs
 
-mul-sum : tie.Need-mul-sum Inv-loop μ-loop
-mul-sum c = search needs
+write-all-requires : tie.Need-write-all-requires Inv-loop μ-loop
+write-all-requires c κs = search needs
 
 mul-wide : tie.Need-mul-wide Inv-loop μ-loop
 mul-wide c = search needs
@@ -25,8 +25,8 @@ shared-slice-read-wide c = search needs
 wide-requires : tie.Need-wide-requires Inv-loop μ-loop
 wide-requires c κs = search needs
 
-add-sum : tie.Need-add-sum Inv-loop μ-loop
-add-sum c = search needs
+print-decimal-requires : tie.Need-print-decimal-requires Inv-loop μ-loop
+print-decimal-requires c κs = search needs
 
 add-i : tie.Need-add-i Inv-loop μ-loop
 add-i c = search needs
@@ -40,18 +40,18 @@ loop-again c = search needs
 returns : tie.Need-returns Inv-loop μ-loop
 returns c = search needs
 
-pub sum-spec : {M : Type 1} → statement M
-sum-spec =
+pub all-words-spec : {M : Type 1} → statement M
+all-words-spec =
     tie.close
     (tie.spec
     Inv-loop
     μ-loop
     loop-holds
-    mul-sum
+    write-all-requires
     mul-wide
     shared-slice-read-wide
     wide-requires
-    add-sum
+    print-decimal-requires
     add-i
     loop-less
     loop-again

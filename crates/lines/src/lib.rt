@@ -1,12 +1,13 @@
-// Lines of numbers, read and printed.
+// Lines of numbers, read and printed: what the trial programs share.
 use libc::STDOUT_FILENO;
+use words::wide;
 ghost use Prim.Native.Nat.{_<_, _≤_};
 ghost use lib.ListN.{length};
 
 // A line: the number in each place, where places are parted by a space, and where the line ends.
-pub(crate) struct Line {
-    pub(crate) place: [usize; 32],
-    pub(crate) end: usize,
+pub struct Line {
+    pub place: [usize; 48],
+    pub end: usize,
 }
 
 // A number with one more digit, or as it is where the byte is no digit or the number is large.
@@ -25,24 +26,24 @@ fn more(n: usize, byte: u8) -> usize {
 
 // The place that a byte stands in: a space begins the next.
 fn next(k: usize, byte: u8) -> usize
-    requires { ⌜ k ≤ 31 ⌝ }
-    ensures { λ r. ⌜ r ≤ 31 ⌝ }
+    requires { ⌜ k ≤ 47 ⌝ }
+    ensures { λ r. ⌜ r ≤ 47 ⌝ }
 {
     if byte != b' ' {
         return k;
     }
-    if k == 31 {
+    if k == 47 {
         return k;
     }
     k + 1
 }
 
 // The line that begins at `at`.
-pub(crate) fn line_at(text: &[u8], at: usize) -> Line
+pub fn line_at(text: &[u8], at: usize) -> Line
     requires { ⌜ at < length (now text) ⌝ }
     ensures { λ r. ⌜ (at ≤ r .end) × (r .end ≤ length (now (text .entry))) ⌝ }
 {
-    let mut place = [0usize; 32];
+    let mut place = [0usize; 48];
     let mut k = 0;
     let mut end = at;
     while end < text.len() {
@@ -58,18 +59,18 @@ pub(crate) fn line_at(text: &[u8], at: usize) -> Line
 }
 
 // Prints " gave" and the numbers that came.
-pub(crate) fn gave(came: &[usize]) {
+pub fn gave(came: &[usize]) {
     io::write_all(STDOUT_FILENO, b" gave");
     numbers(came, b" ");
 }
 
 // Ends a line.
-pub(crate) fn end() {
+pub fn end() {
     io::write_all(STDOUT_FILENO, b"\n");
 }
 
 // Prints numbers, each behind a space.
-pub(crate) fn numbers(came: &[usize], space: &[u8]) {
+pub fn numbers(came: &[usize], space: &[u8]) {
     for i in 0..came.len() {
         io::write_all(STDOUT_FILENO, space);
         io::print_decimal(STDOUT_FILENO, came[i] as u64);
@@ -77,16 +78,26 @@ pub(crate) fn numbers(came: &[usize], space: &[u8]) {
 }
 
 // Prints the words of a list, each behind a space.
-pub(crate) fn words(list: &[u32], space: &[u8]) {
+fn all_words(list: &[u32], space: &[u8]) {
     for i in 0..list.len() {
         io::write_all(STDOUT_FILENO, space);
         io::print_decimal(STDOUT_FILENO, wide(list[i]) as u64);
     }
 }
 
-// A word as a number.
-pub(crate) fn wide(word: u32) -> usize
-    ensures { λ r. ⌜ r < 4294967296 ⌝ }
-{
-    word as usize
+// A sum over the words of a list in which each place has a weight of its own.
+fn sum(list: &[u32]) -> usize {
+    let mut sum = 0;
+    for i in 0..list.len() {
+        sum = (sum * 31 + wide(list[i])) % 1000003;
+    }
+    sum
+}
+
+// Prints a sum over the words of a list and, of a short list, all of them.
+pub fn buffer(list: &[u32]) {
+    numbers(&[sum(list)], b" ");
+    if list.len() <= 40 {
+        all_words(list, b" ");
+    }
 }
