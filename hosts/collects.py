@@ -122,6 +122,8 @@ def image(h, t, roots, words, heap=None, **more):
     for a, word in words.items():
         memory[a] = word
     given = roots + flat(words.items())
+    if 0 in words:
+        given += [0, words[0]] * ((ROOM - len(given)) // 2)  # places that a line leaves out write 0 to word 0
     assert len(given) <= ROOM
     collect("given", h, t, memory, roots, *given, **more)
 
@@ -141,7 +143,7 @@ def chain(name, h, t, s, d=None, r=1, **more):
 def fan(h, t, s, d, p, r=1, **more):
     heap = [0] * h
     for i, a in enumerate(range(p + 2, min(h, p + 2 + p * d), d)):
-        heap[2 + i], heap[a] = a, s
+        heap[2 + i], heap[a] = a, header(s, int(s > 1))
     heap[1] = header(p + 1, p)
     collect("fan", h, t, heap, [1] * r, s, d, p, **more)
 
@@ -237,8 +239,8 @@ def sound_lines():
     image(12, 2, [0, 0], {0: header(2, 1), 1: header(3, 1)})
     image(12, 2, [1, 5], {1: 4, 5: 2})  # touching
     image(12, 2, [5, 1], {1: 4, 5: 2})
-    image(13, 3, [3, 8], {3: 3, 8: 3})  # every side is dropped
-    image(13, 3, [4, 10], {4: 3, 10: 3})  # every side is just kept
+    image(13, 3, [3, 8], {3: 3, 8: 3})  # every gap is dropped
+    image(13, 3, [4, 10], {4: 3, 10: 3})  # gaps of just T words are kept
     image(13, 12, [1], {1: header(12, 11)})
     image(13, 12, [1], {1: 12, 2: 12})
     image(9, 1, [2, 4, 6, 8], {2: 1, 4: 1, 6: 1, 8: 1})
@@ -340,8 +342,9 @@ def large_lines():
         chain(name, 65536, 1, 5)
         chain(name, 65535, 7, 9)
         chain(name, 65536, 2, 65535)
-        chain(name, 65536, 2, 2, 3)  # every side is dropped
-        chain(name, 65536, 2, 2, 4)  # as many intervals as there can be
+        chain(name, 65536, 2, 2, 3)  # every gap is dropped
+        chain(name, 65536, 2, 2, 4)
+        chain(name, 65533, 2, 2, 4)  # as many intervals as such a heap can have
         chain(name, 65536, 3, 5, 8, lent=[2048, 21845, 43690])
         chain(name, 65536, 2, 4, 3)
         chain(name, 65536, 2, 2, r=65536)
@@ -351,7 +354,7 @@ def large_lines():
     for r in [2, 65535, 65536, 65537]:
         chain("onward", 64, 2, 3, r=r)
     fan(16, 2, 2, 2, 4)
-    fan(65536, 2, 2, 2, 21844)  # the deepest stack
+    fan(65536, 2, 2, 2, 21844)  # the deepest stack for T = 2
     fan(65536, 2, 2, 2, 21845)
     fan(65536, 1, 1, 1, 32767)
     fan(65536, 2, 2, 1, 21844)

@@ -4,8 +4,6 @@ use collector::Collected;
 use layout::Rooms;
 use layout::State;
 use libc::STDOUT_FILENO;
-ghost use mathlib.Core.Path.{_≡_};
-ghost use lib.ListN.{length};
 
 // Prints what a collection answered: code and place, the counts; words, keep and count of the state.
 fn answer(got: Collected) {
@@ -88,19 +86,12 @@ fn lent(place: [usize; 48]) -> Rooms {
     }
 }
 
-// A buffer as long as the longest that is lent, full of junk, which is 7 in every word.
-fn junk() -> [u32; 131073]
-    ensures { λ r. ⌜ 131073 ≡ length r ⌝ }
-{
-    [7; 131073]
-}
-
 // Lays the heap, and collects in buffers full of junk.
-fn lay(kind: u8, place: [usize; 48], heap: &mut [u32], roots: &mut [u32]) {
+fn lay_and_collect(kind: u8, place: [usize; 48], heap: &mut [u32], roots: &mut [u32]) {
     heaps::lay(kind, place, heap, roots);
-    let mut map = junk();
-    let mut stack = junk();
-    let mut list = junk();
+    let mut map = heaps::junk();
+    let mut stack = heaps::junk();
+    let mut list = heaps::junk();
     collect_in(
         state(place),
         lent(place),
@@ -113,7 +104,7 @@ fn lay(kind: u8, place: [usize; 48], heap: &mut [u32], roots: &mut [u32]) {
 }
 
 // The same in parts of heap and root list as long as the line says.
-fn lay_in(kind: u8, place: [usize; 48], heap: &mut [u32], roots: &mut [u32]) {
+fn lay_in_parts(kind: u8, place: [usize; 48], heap: &mut [u32], roots: &mut [u32]) {
     let h = place[4];
     let r = place[8];
     if heap.len() < h {
@@ -122,14 +113,14 @@ fn lay_in(kind: u8, place: [usize; 48], heap: &mut [u32], roots: &mut [u32]) {
     if roots.len() < r {
         return;
     }
-    lay(kind, place, &mut heap[..h], &mut roots[..r]);
+    lay_and_collect(kind, place, &mut heap[..h], &mut roots[..r]);
 }
 
 // One collection, of a heap laid in clear words.
 fn trial(kind: u8, place: [usize; 48]) {
     let mut heap = [0; 65537];
     let mut roots = [0; 65537];
-    lay_in(kind, place, &mut heap, &mut roots);
+    lay_in_parts(kind, place, &mut heap, &mut roots);
 }
 
 // All lines, a collection each: prints the line, and behind it what came.

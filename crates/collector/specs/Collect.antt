@@ -6,16 +6,12 @@ use mathlib.Core.List.{List, _++_}
 use lib.ListN.{length, drop, replicate}
 use lib.Dec.{leb, eqb}
 use Rattle.layout.specs.Intervals.{shown}
-use Rattle.layout.specs.Limits.{within, mapWords, stackWords, listWords}
+use Rattle.layout.specs.Limits.{maxRoots, within, mapWords, stackWords, listWords}
 use Rattle.layout.specs.Refusal.{unless}
 use Rattle.layout.specs.declared.State.{State}
 use Rattle.runs.specs.Runs.{freeList}
 use Rattle.marking.specs.Marking.{Marking, Outcome, going, done, refused, collection}
 use Rattle.collector.specs.declared.Collected.{Collected}
-
--- The most roots that a collection is lent.
-abbrev pub maxRoots : ℕ
-maxRoots = 65536
 
 -- What a collection answers, and what stands in map, stack and list afterwards.
 pub record Left : Type 0 where
@@ -55,7 +51,7 @@ cleared heap t code place =
       list = replicate (listWords h t) 0;
     }
 
--- The needed parts after a collection. Every collection ends, so the first case is never met.
+-- The needed parts after a collection; the first case is never met, since every collection ends.
 abbrev pub settles : List ℕ → ℕ → Outcome → Left
 settles heap t (going m) = settled heap t m
 settles heap t (done m) = settled heap t m
@@ -65,7 +61,7 @@ settles heap t (refused code place) = cleared heap t code place
 unfoldable pub collectsIn : List ℕ → ℕ → List ℕ → Left
 collectsIn heap t roots = settles heap t (collection heap t roots)
 
--- A collection.
+-- A collection: from the state and all that is lent to all that is left, refusals 1 and 2 first.
 unfoldable pub collects : State → List ℕ → List ℕ → List ℕ → List ℕ → List ℕ → Left
 collects state heap roots map stack list =
     let h : ℕ = state .words in

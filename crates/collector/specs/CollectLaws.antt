@@ -10,7 +10,7 @@ use lib.Seq.{length-take-le}
 use lib.Dec.{ltb, leb, eqb}
 use borrow.Author.Tests.{ltb-true, leb-true, eqb-true}
 use Rattle.layout.specs.Intervals.{shown}
-use Rattle.layout.specs.Limits.{mapWords, stackWords, listWords, roomsOf}
+use Rattle.layout.specs.Limits.{maxRoots, mapWords, stackWords, listWords, roomsOf}
 use Rattle.layout.specs.LimitsLaws.{limits, map-tells, allowed, map-needs, stack-needs, list-needs}
 use Rattle.layout.specs.SetUp.{firstList}
 use Rattle.layout.specs.declared.Rooms.{Rooms}
@@ -19,7 +19,7 @@ use Rattle.machine.specs.Machine.{Fit, Begun, Ran}
 use Rattle.machine.specs.declared.Progress.{Progress}
 use Rattle.machine.specs.declared.Ended.{Ended}
 use Rattle.machine.specs.declared.Ended.the-variants.{Done, Refused}
-use Rattle.collector.specs.Collect.{maxRoots, left, collectRefused, collectsIn, collects, Parts}
+use Rattle.collector.specs.Collect.{left, collectRefused, collectsIn, collects, Parts}
 use Rattle.collector.specs.declared.Collected.{Collected}
 
 -- A collection in the needed parts.

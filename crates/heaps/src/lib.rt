@@ -2,7 +2,16 @@
 // it word by word, r is random, o is a chain onward, b a chain back, any other a fan.
 mod random;
 
+ghost use mathlib.Core.Path.{_≡_};
 ghost use Prim.Native.Nat.{_≤_};
+ghost use lib.ListN.{length};
+
+// A buffer as long as the longest that a trial lends, full of junk, which is 7 in every word.
+pub fn junk() -> [u32; 131073]
+    ensures { λ r. ⌜ 131073 ≡ length r ⌝ }
+{
+    [7; 131073]
+}
 
 // The low 32 bits of a number.
 fn cut(n: usize) -> u32 {
@@ -41,6 +50,16 @@ fn given(place: [usize; 48], heap: &mut [u32], roots: &mut [u32]) {
     write_words(&from[r..], heap);
 }
 
+// The header of an object of s words with a reference, if it has a word for one.
+fn header(s: usize) -> u32
+    requires { ⌜ s ≤ 65535 ⌝ }
+{
+    if s < 2 {
+        return cut(s);
+    }
+    cut(65536 + s)
+}
+
 // What an object of a chain refers to: back to the last one, or on to the next if that is one.
 fn link(kind: u8, last: usize, next: usize, is_next: bool) -> u32 {
     if kind == b'b' {
@@ -61,7 +80,7 @@ fn chain(kind: u8, heap: &mut [u32], s: usize, d: usize) -> usize
     let mut a = 1;
     while a + s <= heap.len() {
         let next = a + d;
-        heap[a] = cut(65536 + s);
+        heap[a] = header(s);
         heap[a + 1] = link(kind, last, next, next + s <= heap.len());
         last = a;
         a = next;
@@ -71,7 +90,7 @@ fn chain(kind: u8, heap: &mut [u32], s: usize, d: usize) -> usize
 
 // Lays p objects of s words from word p + 2 on, each d words behind the one before, and refers to them from word 2 on.
 fn spread(heap: &mut [u32], s: usize, d: usize, p: usize)
-    requires { ⌜ (d ≤ 65535) × (p ≤ 65535) ⌝ }
+    requires { ⌜ (s ≤ 65535) × (d ≤ 65535) × (p ≤ 65535) ⌝ }
 {
     let mut a = p + 2;
     for i in 0..p {
@@ -79,14 +98,14 @@ fn spread(heap: &mut [u32], s: usize, d: usize, p: usize)
             return;
         }
         heap[2 + i] = cut(a);
-        heap[a] = cut(s);
+        heap[a] = header(s);
         a += d;
     }
 }
 
 // A fan: an object of p references at word 1, and the objects that it refers to behind it.
 fn fan(heap: &mut [u32], s: usize, d: usize, p: usize)
-    requires { ⌜ (d ≤ 65535) × (p ≤ 65535) ⌝ }
+    requires { ⌜ (s ≤ 65535) × (d ≤ 65535) × (p ≤ 65535) ⌝ }
 {
     if heap.len() <= 1 {
         return;

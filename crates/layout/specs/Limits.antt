@@ -13,6 +13,10 @@ maxWords = 65536
 abbrev pub maxKeep : ℕ
 maxKeep = 65535
 
+-- The most roots that a collection is lent.
+abbrev pub maxRoots : ℕ
+maxRoots = 65536
+
 -- A heap of h words and a keep length of t are within the limits.
 unfoldable pub within : ℕ → ℕ → Bool
 within h t = leb 1 h && leb h maxWords && leb 1 t && leb t maxKeep

@@ -5,7 +5,7 @@ use mathlib.Core.Path.{_≡_}
 use mathlib.Core.List.{List, [], _∷_}
 use lib.ListN.{length, getD, take, drop, replicate}
 use Rattle.layout.specs.Intervals.{shown}
-use Rattle.layout.specs.Limits.{mapWords, stackWords, listWords}
+use Rattle.layout.specs.Limits.{maxRoots, mapWords, stackWords, listWords}
 use Rattle.layout.specs.LimitsLaws.{Limits}
 use Rattle.layout.specs.SetUp.{firstList}
 use Rattle.runs.specs.Runs.{freeList}
@@ -41,10 +41,10 @@ outcomeOf heap roots map stack (Going p) = going (markingOf heap roots map stack
 outcomeOf heap roots map stack (Done p) = done (markingOf heap roots map stack p)
 outcomeOf heap roots map stack (Refused c r) = refused c r
 
--- How a run ended, likewise.
-abbrev pub endOf : List ℕ → List ℕ → List ℕ → List ℕ → Ended → Outcome
-endOf heap roots map stack (ended.Done p) = done (markingOf heap roots map stack p)
-endOf heap roots map stack (ended.Refused c r) = refused c r
+-- How a run ended, as what its last move came to.
+abbrev pub stepOf : Ended → Step
+stepOf (ended.Done p) = Done p
+stepOf (ended.Refused c r) = Refused c r
 
 -- The list's buffer shows the free list of the map, and n is its count.
 pub record Shows (heap : List ℕ) (t : ℕ) (map list : List ℕ) (n : ℕ) : Type 0 where
@@ -90,7 +90,7 @@ pub record Met (heap : List ℕ) (t : ℕ) (map stack : List ℕ) (p : Progress)
 -- A move can be made.
 pub record Ready (heap : List ℕ) (t : ℕ) (roots map stack list : List ℕ) (p : Progress) : Type 0 where
   pub fit : Fit heap t map stack list p
-  pub few : length roots ≤ 65536
+  pub few : length roots ≤ maxRoots
   pub invariant : Invariant heap t roots (markingOf heap roots map stack p)
 
 -- A move was made as the machine makes it.
@@ -101,18 +101,13 @@ pub record Moved (heap : List ℕ) (t : ℕ) (roots map stack : List ℕ) (p : P
 -- The buffers stand as at the beginning: a clear map, and the first list with its count.
 pub record Begun (heap : List ℕ) (t : ℕ) (roots map stack list : List ℕ) (count : ℕ) : Type 0 where
   pub limits : Limits (length heap) t
-  pub few : length roots ≤ 65536
+  pub few : length roots ≤ maxRoots
   pub map-clear : map ≡ replicate (mapWords (length heap)) 0
   pub stack-size : length stack ≡ stackWords (length heap) t
   pub list-first : list ≡ shown (listWords (length heap) t) (firstList (length heap) t)
   pub count-first : count ≡ length (firstList (length heap) t)
 
--- The buffers and numbers of a run that is done fit each other.
-abbrev pub FitEnded : List ℕ → ℕ → List ℕ → List ℕ → List ℕ → Ended → Type 0
-FitEnded heap t map stack list (ended.Done p) = Fit heap t map stack list p
-FitEnded heap t map stack list (ended.Refused c r) = Unit
-
 -- The run came to what the whole collection comes to.
 pub record Ran (heap : List ℕ) (t : ℕ) (roots map′ stack′ list′ : List ℕ) (e : Ended) : Type 0 where
-  pub same : endOf heap roots map′ stack′ e ≡ collection heap t roots
-  pub fit : FitEnded heap t map′ stack′ list′ e
+  pub same : outcomeOf heap roots map′ stack′ (stepOf e) ≡ collection heap t roots
+  pub fit : FitAfter heap t map′ stack′ list′ (stepOf e)

@@ -6,7 +6,7 @@ use native.Mathlib.Omega.{arith}
 use lib.ListN.{length}
 use Rattle.layout.specs.Limits.{mapWords}
 use Rattle.runs.specs.FreeListLaws.{list-first}
-use Rattle.marking.specs.Marking.{going, done, refused, move, run, begin, collection}
+use Rattle.marking.specs.Marking.{going, move, run, begin, collection}
 use Rattle.marking.specs.Invariant.{ahead, Still}
 use Rattle.marking.specs.InvariantLaws.{run-done, run-refused, Less, move-less, begin-holds, begin-ahead}
 use Rattle.machine.specs.Machine.{pile, markingOf, outcomeOf, Ready, Moved, Begun, Ran}

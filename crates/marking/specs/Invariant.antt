@@ -25,7 +25,7 @@ abbrev pub AllFormed : List ℕ → ℕ → List ℕ → Type 0
 AllFormed heap t [] = Unit
 AllFormed heap t (a ∷ stack) = Formed heap t a × AllFormed heap t stack
 
--- There is room: marked and listed words lie behind word 0, no object is shorter than t, and the stack has no more objects than are marked.
+-- There is room: the map has its needed words, marked and listed words lie behind word 0, no object is shorter than t, and the stack has no more objects than are marked, all well-formed.
 pub record Room (heap : List ℕ) (t : ℕ) (map stack : List ℕ) (objects live : ℕ) : Type 0 where
   pub sized : length map ≡ mapWords (length heap)
   pub words : live + listed (freeList t heap map) ≤ length heap - 1
@@ -49,7 +49,7 @@ Still P (done m) = Unit
 Still P (refused c r) = Unit
 
 -- A collection has ended.
-abbrev pub Ended : Outcome → Type 0
-Ended (going m) = ⊥
-Ended (done m) = Unit
-Ended (refused c r) = Unit
+abbrev pub HasEnded : Outcome → Type 0
+HasEnded (going m) = ⊥
+HasEnded (done m) = Unit
+HasEnded (refused c r) = Unit

@@ -18,7 +18,7 @@ use Rattle.runs.specs.SumLaws.{cut-listed}
 use Rattle.runs.specs.FreeListLaws.{list-listed, list-fits, list-cut}
 use Rattle.marking.specs.Marking.{Marking, Outcome, going, done, refused, marked, overlaps, meet, leaving, move, run, begin, collection}
 use Rattle.marking.specs.Meets.{New, Meets, empty, outside, again, ill-formed, overlapping, apart}
-use Rattle.marking.specs.Invariant.{behind, queue, Room, Invariant, ahead, Still, Ended}
+use Rattle.marking.specs.Invariant.{behind, queue, Room, Invariant, ahead, Still, HasEnded}
 use Rattle.marking.specs.MeetLaws.{overlaps-holds, meet-meets}
 
 -- What is done stays so.
@@ -146,7 +146,7 @@ module _ (heap : List ℕ) (t : ℕ) (keeps : 1 ≤ t) where
     always-room n = still (λ m g. (depth-room (g .room), list-fits t heap (m .map) keeps)) (run n heap t (going (begin heap t roots))) (always n (going (begin heap t roots)) begin-holds)
 
     -- With more moves than are ahead a collection has ended.
-    run-ends : (n : ℕ) (o : Outcome) → Still (Less n) o → Ended (run n heap t o)
+    run-ends : (n : ℕ) (o : Outcome) → Still (Less n) o → HasEnded (run n heap t o)
     unfolding run
     run-ends zero (going m) g = omega (arith, g .1)
     run-ends zero (done m) g = tt
@@ -156,6 +156,6 @@ module _ (heap : List ℕ) (t : ℕ) (keeps : 1 ≤ t) where
     run-ends (suc n) (refused c r) g = tt
 
     -- Every collection ends.
-    pub ends : Ended (collection heap t roots)
+    pub ends : HasEnded (collection heap t roots)
     unfolding collection
     ends = run-ends _ (going (begin heap t roots)) (begin-holds, omega (arith, begin-ahead))

@@ -1,14 +1,4 @@
-// Buffers full of junk, which is 7 in every word, and how much of the junk is gone.
-
-ghost use mathlib.Core.Path.{_≡_};
-ghost use lib.ListN.{length};
-
-// A buffer as long as the longest that a trial lends, full of junk.
-pub(crate) fn long() -> [u32; 131073]
-    ensures { λ r. ⌜ 131073 ≡ length r ⌝ }
-{
-    [7; 131073]
-}
+// How much of a buffer's junk, which is 7 in every word, is gone.
 
 // How many words at the front are first, second, and then zeros.
 fn front(words: &[u32], first: u32, second: u32) -> usize {

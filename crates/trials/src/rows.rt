@@ -50,13 +50,13 @@ fn trial(kind: u8, place: [usize; 48]) {
         rooms(place[1], place[2]);
         return;
     }
-    let mut list = buffer::long();
+    let mut list = heaps::junk();
     if kind != b's' {
         lists::trial(kind, place, &mut list);
         return;
     }
-    let heap = buffer::long();
-    let mut map = buffer::long();
+    let heap = heaps::junk();
+    let mut map = heaps::junk();
     set_up_in(place, &heap, &mut map, &mut list);
 }
 

@@ -58,19 +58,28 @@ same-length-3 : tie.Need-same-length-3
 same-length-3 c = search needs
 
 returns : tie.Need-returns
-returns c = let d = c .before .before .before .before .before in leaves-done (begin d .pre) (ran d .run .ensures) (ran d .run .kept .1 .1 .1 .1 .0) (d .clear2 .ensures) (c .before .end .given .1)
+returns c =
+    let d = c .before .before .before .before .before in
+    leaves-done (begin d .pre) (ran d .run .ensures) (ran d .run .kept .1 .1 .1 .1 .0) (d .clear2 .ensures) (c .before .end .given .1)
 
 same-length-4 : tie.Need-same-length-4
-same-length-4 c = c .before .before .before .before .before .before .before .clear3 .kept .0 ∙ long-map (c .before .before .before .before .before .before .before .before .before .before .before .before .before .before .before .before .before .before .before .before .before .before)
+same-length-4 c =
+    let d = c .before .before .before .before .before .before .before in
+    d .clear3 .kept .0 ∙ long-map (d .before .before .before .before .before .before .before .before .before .before .before .before .before .before .before)
 
 same-length-5 : tie.Need-same-length-5
 same-length-5 c = search needs
 
 same-length-6 : tie.Need-same-length-6
-same-length-6 c = c .before .before .before .clear4 .kept .0 ∙ long-list (c .before .before .before .before .before .before .before .before .before .before .before .before .before .before .before .before .before .before .before .before .before .before)
+same-length-6 c =
+    let d = c .before .before .before in
+    d .clear4 .kept .0 ∙ long-list (d .before .before .before .before .before .before .before .before .before .before .before .before .before .before .before .before .before .before .before)
 
 returns-2 : tie.Need-returns-2
-returns-2 c = let d = c .before .before .before .before .before .before .before .before .before .before .before .before .before .before in leaves-refused (begin d .pre) (ran d .run .ensures) (ran d .run .kept .1 .1 .1 .1 .0) (d .clear2 .ensures) (c .before .before .before .before .before .before .before .before .before .before .end2 .given .1) (long-map (ran d)) (c .before .before .before .before .before .before .before .clear3 .ensures) (long-list (ran d)) (c .before .before .before .clear4 .ensures) (c .refused .ensures)
+returns-2 c =
+    let e = c .before .before .before .before .before .before .before .before .before .before in
+    let d = e .before .before .before .before in
+    leaves-refused (begin d .pre) (ran d .run .ensures) (ran d .run .kept .1 .1 .1 .1 .0) (d .clear2 .ensures) (e .end2 .given .1) (long-map (ran d)) (c .before .before .before .before .before .before .before .clear3 .ensures) (long-list (ran d)) (c .before .before .before .clear4 .ensures) (c .refused .ensures)
 
 pub collect-in-spec : {M : Type 1} → statement M
 collect-in-spec =

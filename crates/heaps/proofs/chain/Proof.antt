@@ -25,11 +25,8 @@ add-loop c = search needs
 add-next : tie.Need-add-next Inv-loop μ-loop
 add-next c = search needs
 
-add-cut : tie.Need-add-cut Inv-loop μ-loop
-add-cut c = search needs
-
-cut-requires : tie.Need-cut-requires Inv-loop μ-loop
-cut-requires c κs = search needs
+header-requires : tie.Need-header-requires Inv-loop μ-loop
+header-requires c κs = search needs
 
 mul-heap : tie.Need-mul-heap Inv-loop μ-loop
 mul-heap c = search needs
@@ -74,8 +71,7 @@ chain-spec =
     loop-holds
     add-loop
     add-next
-    add-cut
-    cut-requires
+    header-requires
     mul-heap
     slice-write-heap
     add-link

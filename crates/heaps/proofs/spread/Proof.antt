@@ -37,8 +37,8 @@ mul-heap c = search needs
 slice-write-heap : tie.Need-slice-write-heap Inv-loop μ-loop
 slice-write-heap c = search needs
 
-cut-requires-2 : tie.Need-cut-requires-2 Inv-loop μ-loop
-cut-requires-2 c κs = search needs
+header-requires : tie.Need-header-requires Inv-loop μ-loop
+header-requires c κs = search needs
 
 mul-heap-2 : tie.Need-mul-heap-2 Inv-loop μ-loop
 mul-heap-2 c = search needs
@@ -78,7 +78,7 @@ spread-spec =
     add-heap
     mul-heap
     slice-write-heap
-    cut-requires-2
+    header-requires
     mul-heap-2
     slice-write-heap-2
     add-a-2
