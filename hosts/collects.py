@@ -106,11 +106,13 @@ def spare(h, t):
     return [need + more for need, more in zip(rooms(h, t), [(1, 2, 3), (2, 1, 1), (0, 0, 0), (1, 1, 2)][len(lines) % 4])]
 
 
-def collect(name, h, t, heap, roots, *given, count=0, lent=None, want=()):
-    """A line; `want` is how the answer begins where the rules give it as an example."""
+def collect(name, h, t, heap, roots, *given, count=0, lent=None, want=(), bits=None, free=None):
+    """A line; `want` is how the answer begins, `bits` the map and `free` the list where the rules give them as an example."""
     state, lent = (h, t, count), lent or spare(h, t)
     numbers, written = answers(state, heap, roots, lent)
     assert numbers[: len(want)] == list(want), (name, given, numbers)
+    assert bits is None or written[0] == bits, (name, given, written)
+    assert free is None or written[2][: 2 * numbers[8]] == flat(free), (name, given, written)
     codes.append(numbers[0])
     shows = [shown(new + [7] * (have - len(new))) for new, have in zip(written, lent)]
     say(name, *state, len(heap), *lent, len(roots), *given, gave=numbers + sum(shows, []))
@@ -210,21 +212,20 @@ def chance(h, t, r, seed, inner=0, outside=0, bad=0, overlap=0, **more):
 
 def example_lines():
     """The examples of the rules, P1 and P4 to P11, with what the rules say of them, and those that follow the table."""
-    assert map_of(16, [(1, 3), (8, 2)]) == [258]
-    image(16, 2, [1], {1: 65539, 2: 8, 8: 2}, want=[0, 0, 2, 5, 2, 2, 16, 2, 2])
+    image(16, 2, [1], {1: 65539, 2: 8, 8: 2}, want=[0, 0, 2, 5, 2, 2, 16, 2, 2], bits=[258], free=[(4, 4), (10, 6)])
     pairs = {1: 2, 3: 2, 5: 2}
     image(7, 2, [3, 1, 5], pairs, want=[0, 0, 3, 6, 3, 2, 7, 2, 0])
     image(7, 2, [1, 3, 5], pairs, want=[0, 0, 3, 6, 3, 1, 7, 2, 0])
     image(8, 2, [1, 2], {1: 4, 2: 2}, want=[6, 2])
     image(8, 2, [2, 1], {1: 4, 2: 2}, want=[6, 1])
-    image(8, 2, [2], {1: 4, 2: 2}, want=[0, 0, 1, 2, 1, 1, 8, 2, 1])
+    image(8, 2, [2], {1: 4, 2: 2}, want=[0, 0, 1, 2, 1, 1, 8, 2, 1], free=[(4, 4)])
     image(8, 2, [6], {6: 3}, want=[5, 6])
     image(8, 2, [6], {6: 2}, want=[0, 0, 1])
     image(8, 2, [1], {1: 131074}, want=[5, 1])
     image(8, 2, [1], {1: 65538}, want=[0, 0, 1])
     image(1, 1, [], {}, want=[0, 0, 0, 0, 0, 0, 1, 1, 0])
     image(1, 1, [1], {}, want=[4, 1])
-    image(2, 1, [], {}, want=[0, 0, 0, 0, 0, 1, 2, 1, 1])
+    image(2, 1, [], {}, want=[0, 0, 0, 0, 0, 1, 2, 1, 1], free=[(1, 1)])
     image(2, 2, [], {}, want=[0, 0, 0, 0, 0, 0, 2, 2, 0])
     image(8, 2, [1], {1: header(2, 1), 2: 1}, want=[0, 0, 1, 2, 2])
     image(8, 2, [1, 1], {1: header(2, 1)}, want=[0, 0, 1, 2, 3])

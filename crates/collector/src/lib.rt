@@ -20,7 +20,8 @@ pub struct Collected {
     pub state: State,
 }
 
-// Marks what the roots reach and leaves map and list of it, with a clear stack. The old content of all three is not looked at.
+// Marks from the roots in the fixed order, and leaves map and list with a clear stack, or refuses by number. The old content
+// of all three is not looked at.
 pub fn collect(
     state: State,
     heap: &[u32],

@@ -5,7 +5,7 @@ use mathlib.Core.Path.{_≡_}
 use mathlib.Core.List.{List, [], _∷_}
 use lib.ListN.{length, getD, take, drop, replicate}
 use Rattle.layout.specs.Intervals.{shown}
-use Rattle.layout.specs.Limits.{maxRoots, mapWords, stackWords, listWords}
+use Rattle.layout.specs.Limits.{maxWords, maxRoots, mapWords, stackWords, listWords}
 use Rattle.layout.specs.LimitsLaws.{Limits}
 use Rattle.layout.specs.SetUp.{firstList}
 use Rattle.runs.specs.Runs.{freeList}
@@ -76,11 +76,11 @@ noted p s n = record { next = p .next; at = p .at; left = p .left; depth = p .de
 -- There is room to mark r and to push it.
 pub record Noting (map stack : List ℕ) (p : Progress) (r s : ℕ) : Type 0 where
   pub here : r / 32 < length map
-  pub word : r < 65536
+  pub word : r < maxWords
   pub deep : p .depth < length stack
-  pub depth : p .depth < 65536
-  pub objects : p .objects < 65536
-  pub live : p .live + s < 65536
+  pub depth : p .depth < maxWords
+  pub objects : p .objects < maxWords
+  pub live : p .live + s < maxWords
 
 -- The reference r was met as the machine meets it, whatever the roots are.
 pub record Met (heap : List ℕ) (t : ℕ) (map stack : List ℕ) (p : Progress) (r : ℕ) (map′ stack′ list′ : List ℕ) (o : Step) : Type 0 where

@@ -5,12 +5,12 @@ use mathlib.Core.List.{List, [], _∷_}
 use native.Mathlib.Nat.{div-le-self}
 use native.Mathlib.Numerals.{add-one}
 use native.Mathlib.Omega.{arith}
-use lib.ListN.{length, getD, take, drop}
+use lib.ListN.{length, getD, take, drop, drop-of-length-le}
 use lib.Seq.{drop-cons}
 use Rattle.words.specs.Header.{headerAt, fieldsOf}
 use Rattle.words.specs.HeaderLaws.{Formed}
 use Rattle.words.specs.declared.header.Header.{Header}
-use Rattle.layout.specs.Limits.{stackWords}
+use Rattle.layout.specs.Limits.{maxWords, stackWords}
 use Rattle.marking.specs.Marking.{move}
 use Rattle.marking.specs.Invariant.{AllFormed}
 use Rattle.marking.specs.InvariantLaws.{depth-room}
@@ -35,13 +35,6 @@ first l i (suc n) some h =
 take-none : (l : List ℕ) (n : ℕ) → n ≤ 0 → take n l ≡ []
 take-none l zero h = refl
 take-none l (suc n) h = absurd (omega arith)
-
--- No word is left.
-drop-none : (l : List ℕ) (n : ℕ) → length l ≤ n → drop n l ≡ []
-drop-none [] zero h = refl
-drop-none [] (suc n) h = refl
-drop-none (x ∷ l) zero h = absurd (omega arith)
-drop-none (x ∷ l) (suc n) h = drop-none l n (omega arith)
 
 -- The numbers after a field is read.
 abbrev pub afterField : Progress → Progress
@@ -81,7 +74,7 @@ module _ {heap : List ℕ} {t : ℕ} {roots map stack list : List ℕ} {p : Prog
       top-inside = omega (arith, length-pile stack (p .depth), x .fit .stack-size, depth-room heap t (x .fit .limits .keeps) (x .invariant .room))
 
       -- The stack is short.
-      pub top-small : p .depth - 1 < 65536
+      pub top-small : p .depth - 1 < maxWords
       unfolding stackWords
       top-small = omega (arith, top-inside, x .fit .stack-size, div-le-self (length heap - 1) t, x .fit .limits .words)
 
@@ -112,4 +105,4 @@ module _ {heap : List ℕ} {t : ℕ} {roots map stack list : List ℕ} {p : Prog
       -- There is none, and the collection is done.
       pub moved-done : length roots ≤ p .next → Moved heap t roots map stack p map stack list (Done p)
       unfolding move
-      moved-done l = record { same = rw (take-none (drop (p .at) heap) (p .left) none, pile-none stack (p .depth) flat, drop-none roots (p .next) l) refl; fit = x .fit }
+      moved-done l = record { same = rw (take-none (drop (p .at) heap) (p .left) none, pile-none stack (p .depth) flat, drop-of-length-le roots l) refl; fit = x .fit }

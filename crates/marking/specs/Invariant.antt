@@ -38,7 +38,7 @@ pub record Invariant (heap : List ℕ) (t : ℕ) (roots : List ℕ) (m : Marking
   pub room : Room heap t (m .map) (m .stack) (m .objects) (m .live)
   pub read : m .references + length (queue heap m) + m .objects ≤ length roots + m .live
 
--- No fewer moves than are left.
+-- No fewer moves than are left before the last one.
 unfoldable pub ahead : List ℕ → Marking → ℕ
 ahead heap m = length (queue heap m) + length (m .stack) + (length heap - m .live)
 

@@ -83,6 +83,6 @@ begin heap t roots =
     let map : List ℕ = replicate (mapWords (length heap)) 0 in
     record { todo = []; stack = []; roots = roots; map = map; objects = 0; live = 0; references = 0; peak = length (freeList t heap map) }
 
--- A whole collection: more moves than there can be.
+-- A whole collection: no fewer moves than there can be.
 unfoldable pub collection : List ℕ → ℕ → List ℕ → Outcome
 collection heap t roots = run (suc (length roots + length heap)) heap t (going (begin heap t roots))
