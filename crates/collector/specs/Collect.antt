@@ -4,9 +4,9 @@ use mathlib.Core.Path.{_≡_}
 use mathlib.Core.Bool.{true, _&&_}
 use mathlib.Core.List.{List, _++_}
 use lib.ListN.{length, drop, replicate}
-use lib.Dec.{leb, eqb}
+use lib.Dec.{leb}
 use Rattle.layout.specs.Intervals.{shown}
-use Rattle.layout.specs.Limits.{maxRoots, within, mapWords, stackWords, listWords}
+use Rattle.layout.specs.Limits.{maxRoots, within, suits, mapWords, stackWords, listWords}
 use Rattle.layout.specs.Refusal.{unless}
 use Rattle.layout.specs.declared.State.{State}
 use Rattle.runs.specs.Runs.{freeList}
@@ -68,7 +68,7 @@ collects state heap roots map stack list =
     let t : ℕ = state .keep in
     let refuse : ℕ → Left = λ n. left (collectRefused n 0 state) map stack list in
     let parts : Left = collectsIn heap t roots in
-    unless (within h t && eqb (length heap) h && leb (length roots) maxRoots) (refuse 1)
+    unless (suits state heap && leb (length roots) maxRoots) (refuse 1)
     (unless (leb (mapWords h) (length map) && leb (stackWords h t) (length stack) && leb (listWords h t) (length list)) (refuse 2)
     (record {
       answer = parts .answer;

@@ -11,7 +11,7 @@ use lib.Dec.{ltb, leb, eqb}
 use borrow.Author.Tests.{ltb-true, leb-true, eqb-true}
 use Rattle.layout.specs.Intervals.{shown}
 use Rattle.layout.specs.Limits.{maxRoots, mapWords, stackWords, listWords, roomsOf}
-use Rattle.layout.specs.LimitsLaws.{limits, map-tells, allowed, map-needs, stack-needs, list-needs}
+use Rattle.layout.specs.LimitsLaws.{limits, Suited, suits-tells, suited}
 use Rattle.layout.specs.SetUp.{firstList}
 use Rattle.layout.specs.declared.Rooms.{Rooms}
 use Rattle.layout.specs.declared.State.{State}
@@ -61,25 +61,15 @@ module _ (state : State) (heap roots map stack list : List ℕ) {rooms : Rooms} 
   -- Out of the limits it refuses with 1.
   pub refuses-limits : Allowed false → left (collectRefused 1 0 state) map stack list ≡ collects state heap roots map stack list
   unfolding collects
-  refuses-limits out = rw (← map-tells (state .words) (state .keep) e, out)
+  refuses-limits out = rw (← suits-tells state heap e, out)
 
-  module _ (ok : Allowed true) where
-    -- What the first test tells.
-    tells : (rooms .map ≢ 0) × (length heap ≡ state .words) × (length roots ≤ maxRoots)
-    tells =
-        let x = and-eq-true-iff _ _ .0 ok in
-        let y = and-eq-true-iff _ _ .0 (x .0) in
-        let some : 0 < rooms .map = ltb-true 0 (rooms .map) (y .0) in
-        (λ none. omega arith, eqb-true (length heap) (state .words) (y .1), leb-true (length roots) maxRoots (x .1))
+  module _ (test : Allowed true) where
+    -- What it tells.
+    tells : (ltb 0 (rooms .map) && eqb (length heap) (state .words) ≡ true) × (leb (length roots) maxRoots ≡ true)
+    tells = and-eq-true-iff _ _ .0 test
 
-    map-room : rooms .map ≡ mapWords (state .words)
-    map-room = map-needs (state .words) (state .keep) e (tells .0)
-
-    stack-room : rooms .stack ≡ stackWords (state .words) (state .keep)
-    stack-room = stack-needs (state .words) (state .keep) e (tells .0)
-
-    list-room : rooms .list ≡ listWords (state .words) (state .keep)
-    list-room = list-needs (state .words) (state .keep) e (tells .0)
+    ok : Suited state heap rooms
+    ok = suited state heap e (tells .0)
 
     -- The second test as the code makes it.
     abbrev pub Lent : Bool → Type 0
@@ -88,7 +78,7 @@ module _ (state : State) (heap roots map stack list : List ℕ) {rooms : Rooms} 
     -- With a short buffer it refuses with 2.
     pub refuses-short : Lent false → left (collectRefused 2 0 state) map stack list ≡ collects state heap roots map stack list
     unfolding collects
-    refuses-short short = rw (← map-tells (state .words) (state .keep) e, ok, ← map-room, ← stack-room, ← list-room, short)
+    refuses-short short = rw (← suits-tells state heap e, test, ← ok .map-room, ← ok .stack-room, ← ok .list-room, short)
 
     module _ (long : Lent true) where
       fits : (rooms .map ≤ length map) × (rooms .stack ≤ length stack) × (rooms .list ≤ length list)
@@ -97,15 +87,15 @@ module _ (state : State) (heap roots map stack list : List ℕ) {rooms : Rooms} 
       -- Else the needed parts are there.
       pub parts : Parts heap (state .keep) roots (take (rooms .map) map) (take (rooms .stack) stack) (take (rooms .list) list)
       parts = record {
-        limits = rw (tells .1) (allowed (state .words) (state .keep) e (tells .0));
-        few = tells .2;
-        map-size = rw (tells .1) (length-take-le (rooms .map) map (fits .0) ∙ map-room);
-        stack-size = rw (tells .1) (length-take-le (rooms .stack) stack (fits .1) ∙ stack-room);
-        list-size = rw (tells .1) (length-take-le (rooms .list) list (fits .2) ∙ list-room);
+        limits = rw (ok .same) (ok .limits);
+        few = leb-true (length roots) maxRoots (tells .1);
+        map-size = rw (ok .same) (length-take-le (rooms .map) map (fits .0) ∙ ok .map-room);
+        stack-size = rw (ok .same) (length-take-le (rooms .stack) stack (fits .1) ∙ ok .stack-room);
+        list-size = rw (ok .same) (length-take-le (rooms .list) list (fits .2) ∙ ok .list-room);
       }
 
       -- What is left in them is left in front of the rest.
       pub accepts : {a : Collected} {map′ stack′ list′ : List ℕ} → left a map′ stack′ list′ ≡ collectsIn heap (state .keep) roots
           → left a (map′ ++ drop (rooms .map) map) (stack′ ++ drop (rooms .stack) stack) (list′ ++ drop (rooms .list) list) ≡ collects state heap roots map stack list
       unfolding collects
-      accepts q = rw (← map-tells (state .words) (state .keep) e, ok, ← map-room, ← stack-room, ← list-room, long, ← q) refl
+      accepts q = rw (← suits-tells state heap e, test, ← ok .map-room, ← ok .stack-room, ← ok .list-room, long, ← q) refl

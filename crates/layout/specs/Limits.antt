@@ -1,9 +1,12 @@
 -- Limits, and how many words of each buffer a heap needs.
 use Prim.Native.Nat.{ℕ, _+_, _-_, _*_, _/_}
 use mathlib.Core.Bool.{Bool, _&&_}
-use lib.Dec.{leb}
+use mathlib.Core.List.{List}
+use lib.ListN.{length}
+use lib.Dec.{leb, eqb}
 use Rattle.layout.specs.Refusal.{unless}
 use Rattle.layout.specs.declared.Rooms.{Rooms}
+use Rattle.layout.specs.declared.State.{State}
 
 -- The most words that a heap has.
 abbrev pub maxWords : ℕ
@@ -20,6 +23,10 @@ maxRoots = 65536
 -- A heap of h words and a keep length of t are within the limits.
 unfoldable pub within : ℕ → ℕ → Bool
 within h t = leb 1 h && leb h maxWords && leb 1 t && leb t maxKeep
+
+-- A state suits the heap that is lent with it: it is within the limits, and the heap has its words.
+unfoldable pub suits : State → List ℕ → Bool
+suits state heap = within (state .words) (state .keep) && eqb (length heap) (state .words)
 
 -- The map needs a bit for each word, in words of 32 bits.
 unfoldable pub mapWords : ℕ → ℕ

@@ -2,13 +2,16 @@
 use Prim.Native.Nat.{ℕ, _-_, _*_, _/_, _≤_, _<_}
 use mathlib.Core.Path.{_≡_, refl, sym, _∙_}
 use mathlib.Core.Logic.{_≢_}
-use mathlib.Core.Bool.{Bool, true, false, and-eq-true-iff}
+use mathlib.Core.Bool.{Bool, true, false, _&&_, and-eq-true-iff}
+use mathlib.Core.List.{List}
 use native.Mathlib.Nat.{div-le-self}
 use native.Mathlib.Omega.{arith}
-use lib.Dec.{ltb}
-use borrow.Author.Tests.{leb-true, lt-ltb, le-ltb}
-use Rattle.layout.specs.Limits.{maxWords, maxKeep, within, mapWords, stackWords, listRoom, listWords, roomsOf}
+use lib.ListN.{length}
+use lib.Dec.{ltb, eqb}
+use borrow.Author.Tests.{leb-true, ltb-true, eqb-true, lt-ltb, le-ltb}
+use Rattle.layout.specs.Limits.{maxWords, maxKeep, within, suits, mapWords, stackWords, listRoom, listWords, roomsOf}
 use Rattle.layout.specs.declared.Rooms.{Rooms}
+use Rattle.layout.specs.declared.State.{State}
 
 -- What the limits say of a heap of h words and a keep length of t.
 pub record Limits (h t : ℕ) : Type 0 where
@@ -74,7 +77,42 @@ module _ (h t : ℕ) {rooms : Rooms} (e : rooms ≡ roomsOf h t) where
     pub list-needs : rooms .list ≡ listWords h t
     list-needs = rw (e, rooms-in h t allowed)
 
+-- A state that suits its heap is within the limits, and the heap has its words.
+pub suits-limits : (state : State) (heap : List ℕ) → suits state heap ≡ true → Limits (state .words) (state .keep) × (length heap ≡ state .words)
+unfolding suits
+suits-limits state heap e =
+    let x = and-eq-true-iff _ _ .0 e in
+    (limits (state .words) (state .keep) (x .0), eqb-true (length heap) (state .words) (x .1))
+
+-- What is known of a state that suits its heap, and of the figures that a call has worked out.
+pub record Suited (state : State) (heap : List ℕ) (rooms : Rooms) : Type 0 where
+  pub limits : within (state .words) (state .keep) ≡ true
+  pub same : length heap ≡ state .words
+  pub map-room : rooms .map ≡ mapWords (state .words)
+  pub stack-room : rooms .stack ≡ stackWords (state .words) (state .keep)
+  pub list-room : rooms .list ≡ listWords (state .words) (state .keep)
+
+module _ (state : State) (heap : List ℕ) {rooms : Rooms} (e : rooms ≡ roomsOf (state .words) (state .keep)) where
+  -- The map figure and the heap's length tell whether it suits.
+  pub suits-tells : ltb 0 (rooms .map) && eqb (length heap) (state .words) ≡ suits state heap
+  unfolding suits
+  suits-tells = rw (map-tells (state .words) (state .keep) e)
+
+  pub suited : ltb 0 (rooms .map) && eqb (length heap) (state .words) ≡ true → Suited state heap rooms
+  suited ok =
+      let h : ℕ = state .words in
+      let t : ℕ = state .keep in
+      let x = and-eq-true-iff (ltb 0 (rooms .map)) _ .0 ok in
+      let more : 0 < rooms .map = ltb-true 0 (rooms .map) (x .0) in
+      let some : rooms .map ≢ 0 = λ none. omega arith in
+      record { limits = allowed h t e some; same = eqb-true (length heap) h (x .1); map-room = map-needs h t e some; stack-room = stack-needs h t e some; list-room = list-needs h t e some }
+
 -- A map of the needed length has a word for each bit of the heap.
 pub bit-inside : (h a : ℕ) → a < h → a / 32 < mapWords h
 unfolding mapWords
 bit-inside h a l = omega arith
+
+-- A map of the needed length, or a longer one, has a bit for each word of the heap.
+pub bits-enough : (h n : ℕ) → mapWords h ≤ n → h ≤ 32 * n
+unfolding mapWords
+bits-enough h n l = omega arith

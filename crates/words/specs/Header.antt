@@ -1,5 +1,5 @@
 -- Objects and their headers.
-use Prim.Native.Nat.{ℕ, suc, _+_, _/_, _%_}
+use Prim.Native.Nat.{ℕ, suc, _+_, _*_, _/_, _%_}
 use mathlib.Core.Bool.{Bool, _&&_}
 use mathlib.Core.List.{List}
 use lib.ListN.{length, getD, take, drop}
@@ -17,6 +17,10 @@ refsAt heap a = getD heap a 0 / 65536
 -- The parts of the header at a.
 abbrev pub headerAt : List ℕ → ℕ → Header
 headerAt heap a = record { size = sizeAt heap a; refs = refsAt heap a }
+
+-- The word of a header with size s and p references.
+unfoldable pub headerWord : ℕ → ℕ → ℕ
+headerWord s p = p * 65536 + s
 
 -- The object at a is well-formed: it has at least t words, fewer references than words, and ends within the heap.
 unfoldable pub wellFormed : List ℕ → ℕ → ℕ → Bool

@@ -2,7 +2,7 @@
 ghost use mathlib.Core.Path.{_≡_};
 ghost use Prim.Native.Nat.{_<_};
 ghost use lib.ListN.{length};
-ghost use Rattle.words.specs.Header.{headerAt, wellFormed};
+ghost use Rattle.words.specs.Header.{headerAt, headerWord, wellFormed};
 
 // The parts of an object's header: its size, header included, and how many references it has.
 pub struct Header {
@@ -20,6 +20,14 @@ impl Header {
         let size = (word % 65536) as usize;
         let refs = (word / 65536) as usize;
         Header { size, refs }
+    }
+
+    // The word of a header.
+    pub fn word(size: usize, refs: usize) -> u32
+        requires { ⌜ (size < 65536) × (refs < 65536) ⌝ }
+        ensures { λ r. ⌜ r ≡ headerWord size refs ⌝ }
+    {
+        (refs * 65536 + size) as u32
     }
 
     // Whether the object at a is well-formed.

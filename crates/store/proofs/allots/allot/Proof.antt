@@ -1,0 +1,98 @@
+-- `allot`: each way out is a law of `allots`.
+use borrow.Author.Needs.{needs}
+use Rattle.store.specs.AllotLaws.{ready, allot-refused, allot-full, record-asks, front-asks, lay-asks, bit-asks, allot-placed}
+use Rattle.store.proofs.allots.allot.Statement.{statement}
+use Rattle.store.proofs.allots.allot.Tie as tie
+
+allot-code-requires : tie.Need-allot-code-requires
+allot-code-requires c κs = search needs
+
+refused-requires : tie.Need-refused-requires
+refused-requires c κs = search needs
+
+same-length : tie.Need-same-length
+same-length c = search needs
+
+same-length-2 : tie.Need-same-length-2
+same-length-2 c = search needs
+
+same-length-3 : tie.Need-same-length-3
+same-length-3 c = search needs
+
+returns : tie.Need-returns
+returns c = let t = c .before .before .before .before .before .before .before .before .before .args in rw (c .refused .ensures) (allot-refused (t .state) (t .heap .now) (t .map .now) (t .list .now) (t .s) (t .p) (c .before .before .allot-code .ensures) (c .before .if1 .taken))
+
+fitting-requires : tie.Need-fitting-requires
+fitting-requires c κs = let t = c .before .before .before .before .before .before .before .before .before .args in ready (t .state) (t .heap .now) (t .map .now) (t .list .now) (t .s) (t .p) (c .before .before .allot-code .ensures) (c .before .if1 .left) .room
+
+enum-known-j : tie.Need-enum-known-j
+enum-known-j c = search needs
+
+enum-told : tie.Need-enum-told
+enum-told c = search needs
+
+refused-requires-2 : tie.Need-refused-requires-2
+refused-requires-2 c κs = search needs
+
+same-length-4 : tie.Need-same-length-4
+same-length-4 c = search needs
+
+same-length-5 : tie.Need-same-length-5
+same-length-5 c = search needs
+
+same-length-6 : tie.Need-same-length-6
+same-length-6 c = search needs
+
+returns-2 : tie.Need-returns-2
+returns-2 c = let t = c .before .before .before .before .before .before .before .before .before .before .before .before .before .args in rw (c .refused2 .ensures) (allot-full (t .state) (t .heap .now) (t .map .now) (t .list .now) (t .s) (t .p) (c .before .before .before .before .before .before .allot-code .ensures) (c .before .before .before .before .before .if1 .left) (c .before .before .before .fitting .ensures) (c .before .enum-told .given .1))
+
+at-requires : tie.Need-at-requires
+at-requires c κs = let t = c .before .before .before .before .before .before .before .before .before .before .before .before .before .before .args in record-asks (t .state) (t .heap .now) (t .map .now) (t .list .now) (t .s) (t .p) (c .before .before .before .before .before .before .before .allot-code .ensures) (c .before .before .before .before .before .before .if1 .left) (c .before .before .before .before .fitting .ensures) (c .before .before .j .given .1)
+
+take-front-requires : tie.Need-take-front-requires
+take-front-requires c κs = let t = c .before .before .before .before .before .before .before .before .before .before .before .before .before .before .before .before .args in front-asks (t .state) (t .heap .now) (t .map .now) (t .list .now) (t .s) (t .p) (c .before .before .before .before .before .before .before .before .before .allot-code .ensures) (c .before .before .before .before .before .before .before .before .if1 .left) (c .before .before .before .before .before .before .fitting .ensures) (c .before .before .before .before .j .given .1)
+
+lay-requires : tie.Need-lay-requires
+lay-requires c κs = let t = c .before .before .before .before .before .before .before .before .before .before .before .before .before .before .before .before .before .before .before .before .args in lay-asks (t .state) (t .heap .now) (t .map .now) (t .list .now) (t .s) (t .p) (c .before .before .before .before .before .before .before .before .before .before .before .before .before .allot-code .ensures) (c .before .before .before .before .before .before .before .before .before .before .before .before .if1 .left) (c .before .before .before .before .before .before .before .before .before .before .fitting .ensures) (c .before .before .before .before .before .before .before .before .j .given .1) (c .before .before .before .before .before .at .ensures .0)
+
+set-requires : tie.Need-set-requires
+set-requires c κs = let t = c .before .before .before .before .before .before .before .before .before .before .before .before .before .before .before .before .before .before .before .before .before .before .before .before .args in bit-asks (t .state) (t .heap .now) (t .map .now) (t .list .now) (t .s) (t .p) (c .before .before .before .before .before .before .before .before .before .before .before .before .before .before .before .before .before .allot-code .ensures) (c .before .before .before .before .before .before .before .before .before .before .before .before .before .before .before .before .if1 .left) (c .before .before .before .before .before .before .before .before .before .before .before .before .before .before .fitting .ensures) (c .before .before .before .before .before .before .before .before .before .before .before .before .j .given .1) (c .before .before .before .before .before .before .before .before .before .at .ensures .0)
+
+same-length-7 : tie.Need-same-length-7
+same-length-7 c = search needs
+
+same-length-8 : tie.Need-same-length-8
+same-length-8 c = search needs
+
+same-length-9 : tie.Need-same-length-9
+same-length-9 c = search needs
+
+returns-3 : tie.Need-returns-3
+returns-3 c = let t = c .before .before .before .before .before .before .before .before .before .before .before .before .before .before .before .before .before .before .before .before .before .before .before .before .before .before .before .args in allot-placed (t .state) (t .heap .now) (t .map .now) (t .list .now) (t .s) (t .p) (c .before .before .before .before .before .before .before .before .before .before .before .before .before .before .before .before .before .before .before .before .allot-code .ensures) (c .before .before .before .before .before .before .before .before .before .before .before .before .before .before .before .before .before .before .before .if1 .left) (c .before .before .before .before .before .before .before .before .before .before .before .before .before .before .before .before .before .fitting .ensures) (c .before .before .before .before .before .before .before .before .before .before .before .before .before .before .before .j .given .1) (c .before .before .before .before .before .before .before .before .before .before .before .before .at .ensures .0) (c .before .before .before .before .before .before .before .before .before .before .take-front .ensures .0) (c .before .before .before .before .before .before .before .before .before .before .take-front .ensures .1) (c .before .before .before .before .before .before .lay .ensures) (c .before .before .set .ensures)
+
+pub allot-spec : {M : Type 1} → statement M
+allot-spec =
+    tie.close
+    (tie.spec
+    allot-code-requires
+    refused-requires
+    same-length
+    same-length-2
+    same-length-3
+    returns
+    fitting-requires
+    enum-known-j
+    enum-told
+    refused-requires-2
+    same-length-4
+    same-length-5
+    same-length-6
+    returns-2
+    at-requires
+    take-front-requires
+    lay-requires
+    set-requires
+    same-length-7
+    same-length-8
+    same-length-9
+    returns-3)

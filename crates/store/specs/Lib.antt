@@ -1,0 +1,6 @@
+pub mod Allot
+pub mod AllotLaws
+pub mod Fields
+pub mod FieldsLaws
+pub mod Survey
+pub mod SurveyLaws

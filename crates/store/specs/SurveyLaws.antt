@@ -1,0 +1,63 @@
+-- Laws of a survey.
+use Prim.Native.Nat.{ℕ, _*_, _≤_, _<_}
+use mathlib.Core.Path.{_≡_, _∙_}
+use mathlib.Core.Logic.{_≢_}
+use mathlib.Core.Bool.{Bool, true, false}
+use mathlib.Core.List.{List}
+use native.Mathlib.Omega.{arith}
+use lib.ListN.{length, take}
+use lib.Seq.{length-take-le}
+use borrow.Author.Tests.{le-leb, lt-leb}
+use Rattle.layout.specs.Limits.{listWords, roomsOf}
+use Rattle.layout.specs.LimitsLaws.{limits, map-zero, allowed, list-needs}
+use Rattle.layout.specs.declared.Rooms.{Rooms}
+use Rattle.layout.specs.declared.State.{State}
+use Rattle.runs.specs.Lists.{listed}
+use Rattle.runs.specs.SumLaws.{ordered-listed}
+use Rattle.freelist.specs.Figures.{figuresOf}
+use Rattle.freelist.specs.Records.{records, validList}
+use Rattle.freelist.specs.RecordsLaws.{valid-part, valid-ordered}
+use Rattle.freelist.specs.declared.figures.Figures.{Figures}
+use Rattle.store.specs.Survey.{surveyRefused, surveys}
+
+-- The ways out, where the room figures are worked out.
+module _ (state : State) (list : List ℕ) {rooms : Rooms} (e : rooms ≡ roomsOf (state .words) (state .keep)) where
+  -- Out of the limits it refuses with 1.
+  pub survey-limits : rooms .map ≡ 0 → surveyRefused 1 ≡ surveys state list
+  unfolding surveys
+  survey-limits none = rw (map-zero (state .words) (state .keep) e none)
+
+  module _ (some : rooms .map ≢ 0) where
+    room : rooms .list ≡ listWords (state .words) (state .keep)
+    room = list-needs (state .words) (state .keep) e some
+
+    -- With a short list it refuses with 2.
+    pub survey-short : length list < rooms .list → surveyRefused 2 ≡ surveys state list
+    unfolding surveys
+    survey-short short = rw (allowed (state .words) (state .keep) e some, ← room, lt-leb (rooms .list) (length list) short)
+
+    module _ (long : rooms .list ≤ length list) where
+      -- Else the list's needed part is there.
+      pub survey-part : length (take (rooms .list) list) ≡ listWords (state .words) (state .keep)
+      survey-part = length-take-le (rooms .list) list long ∙ room
+
+      -- Then the list decides.
+      module _ {valid : Bool} (v : valid ≡ validList (state .words) (state .keep) (state .count) (take (rooms .list) list)) where
+        rule : validList (state .words) (state .keep) (state .count) list ≡ valid
+        rule = valid-part (state .words) (state .keep) (state .count) list room v
+
+        -- A bad one it refuses with 3.
+        pub survey-list : valid ≡ false → surveyRefused 3 ≡ surveys state list
+        unfolding surveys
+        survey-list bad = rw (allowed (state .words) (state .keep) e some, ← room, le-leb (rooms .list) (length list) long, rule, bad)
+
+        -- Of any other the figures can be had, and are its answer.
+        module _ (good : valid ≡ true) where
+          pub survey-asks : (2 * state .count ≤ length list) × (listed (records (state .count) list) < 65536)
+          survey-asks =
+              let o = valid-ordered (state .words) (state .keep) (state .count) list (rule ∙ good) in
+              (omega (arith, o .0, room), omega (arith, ordered-listed (o .1), limits (state .words) (state .keep) (allowed (state .words) (state .keep) e some)))
+
+          pub survey-figures : {f : Figures} → f ≡ figuresOf (records (state .count) list) → record { code = 0; figures = f } ≡ surveys state list
+          unfolding surveys
+          survey-figures q = rw (allowed (state .words) (state .keep) e some, ← room, le-leb (rooms .list) (length list) long, rule, good, q)
