@@ -8,7 +8,7 @@ use native.Mathlib.Nat.{div-le-self}
 use native.Mathlib.Omega.{arith}
 use lib.ListN.{length}
 use lib.Dec.{ltb, eqb}
-use borrow.Author.Tests.{leb-true, ltb-true, eqb-true, lt-ltb, le-ltb}
+use borrow.Author.Tests.{leb-true, ltb-true, eqb-true, lt-ltb, le-ltb, eq-eqb}
 use Rattle.layout.specs.Limits.{maxWords, maxKeep, within, suits, mapWords, stackWords, listRoom, listWords, roomsOf}
 use Rattle.layout.specs.declared.Rooms.{Rooms}
 use Rattle.layout.specs.declared.State.{State}
@@ -98,6 +98,7 @@ module _ (state : State) (heap : List ℕ) {rooms : Rooms} (e : rooms ≡ roomsO
   unfolding suits
   suits-tells = rw (map-tells (state .words) (state .keep) e)
 
+  -- Where they do, this is known.
   pub suited : ltb 0 (rooms .map) && eqb (length heap) (state .words) ≡ true → Suited state heap rooms
   suited ok =
       let h : ℕ = state .words in
@@ -106,6 +107,11 @@ module _ (state : State) (heap : List ℕ) {rooms : Rooms} (e : rooms ≡ roomsO
       let more : 0 < rooms .map = ltb-true 0 (rooms .map) (x .0) in
       let some : rooms .map ≢ 0 = λ none. omega arith in
       record { limits = allowed h t e some; same = eqb-true (length heap) h (x .1); map-room = map-needs h t e some; stack-room = stack-needs h t e some; list-room = list-needs h t e some }
+
+-- What is known then is enough.
+pub is-suited : {state : State} {heap : List ℕ} {rooms : Rooms} → Suited state heap rooms → suits state heap ≡ true
+unfolding suits
+is-suited {state} {heap} x = rw (x .limits, eq-eqb (length heap) (state .words) (x .same))
 
 -- A map of the needed length has a word for each bit of the heap.
 pub bit-inside : (h a : ℕ) → a < h → a / 32 < mapWords h

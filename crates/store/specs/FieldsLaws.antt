@@ -12,7 +12,7 @@ use Rattle.words.specs.Header.{sizeAt, wellFormed}
 use Rattle.words.specs.HeaderLaws.{Formed, formed}
 use Rattle.words.specs.Map.{isStart}
 use Rattle.layout.specs.Limits.{maxWords, suits, mapWords, roomsOf}
-use Rattle.layout.specs.LimitsLaws.{Suited, suits-tells, suited, suits-limits, bits-enough}
+use Rattle.layout.specs.LimitsLaws.{Suited, suits-tells, suited, is-suited, suits-limits, bits-enough}
 use Rattle.layout.specs.RefusalLaws.{no-refusal}
 use Rattle.layout.specs.declared.Rooms.{Rooms}
 use Rattle.layout.specs.declared.State.{State}
@@ -52,7 +52,7 @@ module _ (state : State) (heap map : List ℕ) (a k : ℕ) {rooms : Rooms} (e : 
     -- With a short map it is 2.
     pub code-map : length map < rooms .map → 2 ≡ fieldCode state heap map a k
     unfolding fieldCode
-    code-map short = rw (← suits-tells state heap e, test, ← ok .map-room, lt-leb (rooms .map) (length map) short)
+    code-map short = rw (is-suited ok, ← ok .map-room, lt-leb (rooms .map) (length map) short)
 
     module _ (long : rooms .map ≤ length map) where
       -- Else the map has a bit for each word of the heap, and the number is the object's.
@@ -61,7 +61,7 @@ module _ (state : State) (heap map : List ℕ) (a k : ℕ) {rooms : Rooms} (e : 
 
       pub code-object : {code : ℕ} → code ≡ objectCode heap (state .keep) map a k → code ≡ fieldCode state heap map a k
       unfolding fieldCode
-      code-object q = rw (← suits-tells state heap e, test, ← ok .map-room, le-leb (rooms .map) (length map) long) q
+      code-object q = rw (is-suited ok, ← ok .map-room, le-leb (rooms .map) (length map) long) q
 
 -- Where the number is worked out.
 module _ (state : State) (heap map : List ℕ) (a k : ℕ) {code : ℕ} (e : code ≡ fieldCode state heap map a k) where

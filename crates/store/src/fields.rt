@@ -85,5 +85,6 @@ fn takes(heap: &[u32], map: &[u32], a: usize, k: usize, v: u32) -> bool
 {
     let header = Header::at(heap, a);
     let refs = header.refs;
-    (refs <= k) | (v == 0) | bits::is_start(map, heap.len(), wide(v))
+    let value = wide(v);
+    (refs <= k) | (v == 0) | bits::is_start(map, heap.len(), value)
 }

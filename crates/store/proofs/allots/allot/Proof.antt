@@ -1,8 +1,23 @@
 -- `allot`: each way out is a law of `allots`.
 use borrow.Author.Needs.{needs}
-use Rattle.store.specs.AllotLaws.{ready, allot-refused, allot-full, record-asks, front-asks, lay-asks, bit-asks, allot-placed}
+use Rattle.store.specs.AllotLaws.{Ready, Chosen, ready, chosen, allot-refused, allot-full, record-asks, front-asks, lay-asks, bit-asks, allot-placed}
 use Rattle.store.proofs.allots.allot.Statement.{statement}
 use Rattle.store.proofs.allots.allot.Tie as tie
+
+-- What was lent, seen from where the number is known.
+abbrev begin : tie.After-allot-code → tie.Start
+begin c = c .before .before .before .before .before .before .before
+
+-- No refusal was given.
+is-ready : (c : tie.Else1) → let t = begin (c .before) .args in Ready (t .state) (t .heap .now) (t .map .now) (t .list .now) (t .s) (t .p)
+is-ready c = let t = begin (c .before) .args in ready (t .state) (t .heap .now) (t .map .now) (t .list .now) (t .s) (t .p) (c .before .allot-code .ensures) (c .if1 .left)
+
+-- An interval was chosen.
+is-chosen : (c : tie.After-j) → let t = begin (c .before .before .before .before .before) .args in Chosen (t .state) (t .heap .now) (t .map .now) (t .list .now) (t .s) (t .p) (c .j .given .0 .0)
+is-chosen c =
+    let d = c .before .before .before .before in
+    let t = begin (d .before) .args in
+    chosen (t .state) (t .heap .now) (t .map .now) (t .list .now) (t .s) (t .p) (d .before .allot-code .ensures) (d .if1 .left) (c .before .before .fitting .ensures) (c .j .given .1)
 
 allot-code-requires : tie.Need-allot-code-requires
 allot-code-requires c κs = search needs
@@ -20,10 +35,13 @@ same-length-3 : tie.Need-same-length-3
 same-length-3 c = search needs
 
 returns : tie.Need-returns
-returns c = let t = c .before .before .before .before .before .before .before .before .before .args in rw (c .refused .ensures) (allot-refused (t .state) (t .heap .now) (t .map .now) (t .list .now) (t .s) (t .p) (c .before .before .allot-code .ensures) (c .before .if1 .taken))
+returns c =
+    let d = c .before .before in
+    let t = begin d .args in
+    rw (c .refused .ensures) (allot-refused (t .state) (t .heap .now) (t .map .now) (t .list .now) (t .s) (t .p) (d .allot-code .ensures) (c .before .if1 .taken))
 
 fitting-requires : tie.Need-fitting-requires
-fitting-requires c κs = let t = c .before .before .before .before .before .before .before .before .before .args in ready (t .state) (t .heap .now) (t .map .now) (t .list .now) (t .s) (t .p) (c .before .before .allot-code .ensures) (c .before .if1 .left) .room
+fitting-requires c κs = is-ready (c .before) .room
 
 enum-known-j : tie.Need-enum-known-j
 enum-known-j c = search needs
@@ -44,19 +62,22 @@ same-length-6 : tie.Need-same-length-6
 same-length-6 c = search needs
 
 returns-2 : tie.Need-returns-2
-returns-2 c = let t = c .before .before .before .before .before .before .before .before .before .before .before .before .before .args in rw (c .refused2 .ensures) (allot-full (t .state) (t .heap .now) (t .map .now) (t .list .now) (t .s) (t .p) (c .before .before .before .before .before .before .allot-code .ensures) (c .before .before .before .before .before .if1 .left) (c .before .before .before .fitting .ensures) (c .before .enum-told .given .1))
+returns-2 c =
+    let d = c .before .before .before .before .before in
+    let t = begin (d .before) .args in
+    rw (c .refused2 .ensures) (allot-full (t .state) (t .heap .now) (t .map .now) (t .list .now) (t .s) (t .p) (d .before .allot-code .ensures) (d .if1 .left) (c .before .before .before .fitting .ensures) (c .before .enum-told .given .1))
 
 at-requires : tie.Need-at-requires
-at-requires c κs = let t = c .before .before .before .before .before .before .before .before .before .before .before .before .before .before .args in record-asks (t .state) (t .heap .now) (t .map .now) (t .list .now) (t .s) (t .p) (c .before .before .before .before .before .before .before .allot-code .ensures) (c .before .before .before .before .before .before .if1 .left) (c .before .before .before .before .fitting .ensures) (c .before .before .j .given .1)
+at-requires c κs = record-asks (is-chosen (c .before .before))
 
 take-front-requires : tie.Need-take-front-requires
-take-front-requires c κs = let t = c .before .before .before .before .before .before .before .before .before .before .before .before .before .before .before .before .args in front-asks (t .state) (t .heap .now) (t .map .now) (t .list .now) (t .s) (t .p) (c .before .before .before .before .before .before .before .before .before .allot-code .ensures) (c .before .before .before .before .before .before .before .before .if1 .left) (c .before .before .before .before .before .before .fitting .ensures) (c .before .before .before .before .j .given .1)
+take-front-requires c κs = front-asks (is-chosen (c .before .before .before .before))
 
 lay-requires : tie.Need-lay-requires
-lay-requires c κs = let t = c .before .before .before .before .before .before .before .before .before .before .before .before .before .before .before .before .before .before .before .before .args in lay-asks (t .state) (t .heap .now) (t .map .now) (t .list .now) (t .s) (t .p) (c .before .before .before .before .before .before .before .before .before .before .before .before .before .allot-code .ensures) (c .before .before .before .before .before .before .before .before .before .before .before .before .if1 .left) (c .before .before .before .before .before .before .before .before .before .before .fitting .ensures) (c .before .before .before .before .before .before .before .before .j .given .1) (c .before .before .before .before .before .at .ensures .0)
+lay-requires c κs = lay-asks (is-chosen (c .before .before .before .before .before .before .before .before)) (c .before .before .before .before .before .at .ensures .0)
 
 set-requires : tie.Need-set-requires
-set-requires c κs = let t = c .before .before .before .before .before .before .before .before .before .before .before .before .before .before .before .before .before .before .before .before .before .before .before .before .args in bit-asks (t .state) (t .heap .now) (t .map .now) (t .list .now) (t .s) (t .p) (c .before .before .before .before .before .before .before .before .before .before .before .before .before .before .before .before .before .allot-code .ensures) (c .before .before .before .before .before .before .before .before .before .before .before .before .before .before .before .before .if1 .left) (c .before .before .before .before .before .before .before .before .before .before .before .before .before .before .fitting .ensures) (c .before .before .before .before .before .before .before .before .before .before .before .before .j .given .1) (c .before .before .before .before .before .before .before .before .before .at .ensures .0)
+set-requires c κs = bit-asks (is-chosen (c .before .before .before .before .before .before .before .before .before .before .before .before)) (c .before .before .before .before .before .before .before .before .before .at .ensures .0)
 
 same-length-7 : tie.Need-same-length-7
 same-length-7 c = search needs
@@ -68,7 +89,7 @@ same-length-9 : tie.Need-same-length-9
 same-length-9 c = search needs
 
 returns-3 : tie.Need-returns-3
-returns-3 c = let t = c .before .before .before .before .before .before .before .before .before .before .before .before .before .before .before .before .before .before .before .before .before .before .before .before .before .before .before .args in allot-placed (t .state) (t .heap .now) (t .map .now) (t .list .now) (t .s) (t .p) (c .before .before .before .before .before .before .before .before .before .before .before .before .before .before .before .before .before .before .before .before .allot-code .ensures) (c .before .before .before .before .before .before .before .before .before .before .before .before .before .before .before .before .before .before .before .if1 .left) (c .before .before .before .before .before .before .before .before .before .before .before .before .before .before .before .before .before .fitting .ensures) (c .before .before .before .before .before .before .before .before .before .before .before .before .before .before .before .j .given .1) (c .before .before .before .before .before .before .before .before .before .before .before .before .at .ensures .0) (c .before .before .before .before .before .before .before .before .before .before .take-front .ensures .0) (c .before .before .before .before .before .before .before .before .before .before .take-front .ensures .1) (c .before .before .before .before .before .before .lay .ensures) (c .before .before .set .ensures)
+returns-3 c = allot-placed (is-chosen (c .before .before .before .before .before .before .before .before .before .before .before .before .before .before .before)) (c .before .before .before .before .before .before .before .before .before .before .before .before .at .ensures .0) (c .before .before .before .before .before .before .before .before .before .before .take-front .ensures .0) (c .before .before .before .before .before .before .before .before .before .before .take-front .ensures .1) (c .before .before .before .before .before .before .lay .ensures) (c .before .before .set .ensures)
 
 pub allot-spec : {M : Type 1} → statement M
 allot-spec =

@@ -1,10 +1,8 @@
 -- `lay`: the header stored and the words behind it cleared make the new object.
-use Prim.Native.Nat.{_+_, _-_}
-use mathlib.Core.Path.{_∙_}
-use lib.ListN.{set, length-set}
+use mathlib.Core.Path.{ap, _∙_}
+use lib.ListN.{length}
 use borrow.Author.Needs.{needs}
-use borrow.Rule.Slice.PartMut.{same-len-mid}
-use Rattle.store.specs.AllotLaws.{laid}
+use Rattle.store.specs.AllotLaws.{laid, length-laid}
 use Rattle.store.proofs.allots.lay.Statement.{statement}
 use Rattle.store.proofs.allots.lay.Tie as tie
 
@@ -38,11 +36,13 @@ part-clear-end c = search needs
 clear-requires : tie.Need-clear-requires
 clear-requires c κs = search needs
 
-same-length : tie.Need-same-length
-same-length c = let t = c .before .before .before .before .before .before .args in same-len-mid (t .a + 1) (t .a + t .s - (t .a + 1)) (set (t .heap .now) (t .a) (c .before .before .before .before .word .result)) (c .before .before .clear .last .0) (c .before .before .clear .kept .0) ∙ length-set (t .heap .now) (t .a) (c .before .before .before .before .word .result)
-
 returns : tie.Need-returns
-returns c = let t = c .before .before .before .before .before .before .args in laid (t .heap .now) (t .a) (t .s) (t .p) (c .before .before .before .before .before .before .pre .0) (c .before .before .before .before .before .before .pre .2) (c .before .before .before .before .word .ensures) (c .before .before .clear .ensures)
+returns c =
+    let d = c .before .before .before .before .before .before in
+    laid (d .args .heap .now) (d .args .a) (d .args .s) (d .args .p) (d .pre .0) (d .pre .2) (c .before .before .before .before .word .ensures) (c .before .before .clear .ensures)
+
+same-length : tie.Need-same-length
+same-length c = let d = c .before .before .before .before .before .before in ap length (returns c) ∙ length-laid (d .args .heap .now) (d .args .a) (d .args .s) (d .args .p) (d .pre .0) (d .pre .2)
 
 pub lay-spec : {M : Type 1} → statement M
 lay-spec =
