@@ -1,16 +1,14 @@
 -- Laws of a collection: how it begins in the needed parts, what it leaves there, and its ways out.
-use Prim.Native.Nat.{ℕ, _≤_, _<_}
+use Prim.Native.Nat.{ℕ, _≤_}
 use mathlib.Core.Path.{_≡_, refl, _∙_}
-use mathlib.Core.Logic.{_≢_}
 use mathlib.Core.Bool.{Bool, true, false, _&&_, and-eq-true-iff}
 use mathlib.Core.List.{List, _++_}
-use native.Mathlib.Omega.{arith}
 use lib.ListN.{length, take, drop, replicate}
 use lib.Seq.{length-take-le}
 use lib.Dec.{ltb, leb, eqb}
-use borrow.Author.Tests.{ltb-true, leb-true, eqb-true}
+use borrow.Author.Tests.{leb-true}
 use Rattle.layout.specs.Intervals.{shown}
-use Rattle.layout.specs.Limits.{maxRoots, mapWords, stackWords, listWords, roomsOf}
+use Rattle.layout.specs.Limits.{maxRoots, listWords, roomsOf}
 use Rattle.layout.specs.LimitsLaws.{limits, Suited, suits-tells, suited}
 use Rattle.layout.specs.SetUp.{firstList}
 use Rattle.layout.specs.declared.Rooms.{Rooms}

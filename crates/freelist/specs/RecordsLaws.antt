@@ -2,11 +2,10 @@
 use Prim.Native.Nat.{ℕ, zero, suc, _+_, _-_, _*_, _/_, _≤_, _<_}
 use mathlib.Core.Path.{_≡_, refl, sym, ap, _∙_}
 use mathlib.Core.Logic.{_↔_}
-use mathlib.Core.Bool.{Bool, true, false, _&&_, and-eq-true-iff}
+use mathlib.Core.Bool.{true, false, _&&_, and-eq-true-iff}
 use mathlib.Core.List.{List, [], _∷_, _++_}
 use native.Mathlib.Omega.{arith}
-use native.Mathlib.Decide.{decLe}
-use lib.ListN.{length, getD, take, drop}
+use lib.ListN.{length, getD, drop}
 use lib.Seq.{drop-cons, drop-length}
 use lib.Dec.{leb, ltb}
 use borrow.Author.Tests.{le-leb, lt-leb, lt-ltb, ltb-true, leb-true}
@@ -122,18 +121,3 @@ valid-ordered h t n list e =
     let x = and-eq-true-iff _ _ .0 e in
     let room : n ≤ listRoom h t = leb-true n (listRoom h t) (x .0) in
     (omega (arith, room), order-ordered t h (records n list) .0 (x .1))
-
--- Records in the first words of a buffer are those of the buffer.
-records-take : (n m : ℕ) (list : List ℕ) → 2 * n ≤ m → records n (take m list) ≡ records n list
-unfolding records
-records-take zero m list l = refl
-records-take (suc n) (suc (suc m)) [] l = refl
-records-take (suc n) (suc (suc m)) (x ∷ []) l = refl
-records-take (suc n) (suc (suc m)) (x ∷ y ∷ list) l = ap (λ (t : List Interval). record { start = x; size = y } ∷ t) (records-take n m list (omega arith))
-records-take (suc n) (suc zero) list l = absurd (omega arith)
-records-take (suc n) zero list l = absurd (omega arith)
-
--- The rule looks at the needed part alone: what it gave there it gives of the whole buffer.
-pub valid-part : (h t n : ℕ) (list : List ℕ) {m : ℕ} {valid : Bool} → m ≡ listWords h t → valid ≡ validList h t n (take m list) → validList h t n list ≡ valid
-unfolding validList listWords
-valid-part h t n list e v = rw (v, e) (elim (decLe n (listRoom h t)) [ yes l ↦ rw (records-take n (2 * listRoom h t) list (omega arith)) | no l ↦ rw (lt-leb n (listRoom h t) (omega arith)) ])

@@ -1,6 +1,7 @@
 -- An allot, as one function from what it is lent to what it leaves.
 use Prim.Native.Nat.{ℕ, _+_, _-_}
-use mathlib.Core.Bool.{Bool, _&&_}
+use mathlib.Core.Path.{_≡_}
+use mathlib.Core.Bool.{Bool, true, _&&_}
 use mathlib.Core.List.{List, _∷_, _++_}
 use lib.ListN.{length, take, drop, replicate}
 use lib.Dec.{leb, ltb, eqb}
@@ -37,16 +38,12 @@ allotRefused code state = record { code = code; address = 0; state = state }
 abbrev pub askable : ℕ → ℕ → ℕ → Bool
 askable t s p = leb t s && leb s 65535 && ltb p s
 
--- The number with which an allot is refused before it looks for words, or 0.
-unfoldable pub allotCode : State → List ℕ → List ℕ → List ℕ → ℕ → ℕ → ℕ
-allotCode state heap map list s p =
-    let h : ℕ = state .words in
-    let t : ℕ = state .keep in
-    unless (suits state heap) 1
-    (unless (leb (mapWords h) (length map) && leb (listWords h t) (length list)) 2
-    (unless (validList h t (state .count) list) 3
+-- The number with which an allot is refused before an interval is chosen, or 0: the list is bad, or no such object may be asked for.
+unfoldable pub askedCode : ℕ → ℕ → ℕ → List ℕ → ℕ → ℕ → ℕ
+askedCode h t count list s p =
+    unless (validList h t count list) 3
     (unless (askable t s p) 7
-    0)))
+    0)
 
 -- The heap with a new object at a: its header, zeros in the rest of its s words, and every other word as it was.
 unfoldable pub withObject : List ℕ → ℕ → ℕ → ℕ → List ℕ
@@ -66,9 +63,26 @@ placed state heap map list s p (At j) =
       list = relisted (state .count) free list;
     }
 
--- An allot of s words with p references.
-unfoldable pub allots : State → List ℕ → List ℕ → List ℕ → ℕ → ℕ → Left
-allots state heap map list s p =
-    let code : ℕ = allotCode state heap map list s p in
+-- An allot of s words with p references in the needed parts of map and list.
+unfoldable pub allotsIn : State → List ℕ → List ℕ → List ℕ → ℕ → ℕ → Left
+allotsIn state heap map list s p =
+    let code : ℕ = askedCode (state .words) (state .keep) (state .count) list s p in
     unless (eqb code 0) (allotted (allotRefused code state) heap map list)
     (placed state heap map list s p (fitting s (records (state .count) list)))
+
+-- An allot: from the state and all that is lent to all that is left, refusals 1 and 2 first.
+unfoldable pub allots : State → List ℕ → List ℕ → List ℕ → ℕ → ℕ → Left
+allots state heap map list s p =
+    let m : ℕ = mapWords (state .words) in
+    let n : ℕ = listWords (state .words) (state .keep) in
+    let refuse : ℕ → Left = λ code. allotted (allotRefused code state) heap map list in
+    let parts : Left = allotsIn state heap (take m map) (take n list) s p in
+    unless (suits state heap) (refuse 1)
+    (unless (leb m (length map) && leb n (length list)) (refuse 2)
+    (allotted (parts .answer) (parts .heap) (parts .map ++ drop m map) (parts .list ++ drop n list)))
+
+-- The needed parts are lent, with a state that suits the heap.
+pub record Parts (state : State) (heap map list : List ℕ) : Type 0 where
+  pub suit : suits state heap ≡ true
+  pub map-size : length map ≡ mapWords (state .words)
+  pub list-size : length list ≡ listWords (state .words) (state .keep)

@@ -8,35 +8,28 @@ use native.Mathlib.Omega.{arith}
 use lib.ListN.{length, take, drop, set, replicate, length-append, length-drop, length-replicate, length-set}
 use lib.Seq.{length-take-le, take-suc-set, drop-set-lt, drop-drop, append-snoc}
 use lib.Dec.{leb, ltb, eqb}
-use borrow.Author.Tests.{leb-true, ltb-true, le-leb, ne-eqb}
+use borrow.Author.Tests.{leb-true, ltb-true, ne-eqb}
 use Rattle.words.specs.Header.{headerWord}
 use Rattle.words.specs.Map.{setBit}
-use Rattle.layout.specs.Limits.{suits, mapWords, listWords, roomsOf}
+use Rattle.layout.specs.Limits.{mapWords, roomsOf}
 use Rattle.layout.specs.LimitsLaws.{Limits, Suited, suits-tells, suited, is-suited, suits-limits, bit-inside}
-use Rattle.layout.specs.Refusal.{unless}
 use Rattle.layout.specs.RefusalLaws.{no-refusal}
 use Rattle.layout.specs.declared.Interval.{Interval}
 use Rattle.layout.specs.declared.Rooms.{Rooms}
 use Rattle.layout.specs.declared.State.{State}
-use Rattle.runs.specs.Lists.{intervalAt, end, In, Ordered, withoutFront}
+use Rattle.runs.specs.Lists.{intervalAt, In, Ordered, withoutFront}
 use Rattle.runs.specs.OrderLaws.{ordered-last}
 use Rattle.freelist.specs.Records.{recordAt, records, validList}
-use Rattle.freelist.specs.RecordsLaws.{length-records, record-at, valid-part, valid-ordered}
+use Rattle.freelist.specs.RecordsLaws.{length-records, record-at, valid-ordered}
 use Rattle.freelist.specs.Search.{fitting}
 use Rattle.freelist.specs.SearchLaws.{fitting-in}
 use Rattle.freelist.specs.declared.search.Found.{Found}
 use Rattle.freelist.specs.declared.search.Found.the-variants.{At, Nothing}
 use Rattle.split.specs.Relisted.{relisted}
-use Rattle.store.specs.Allot.{allotted, allotRefused, askable, allotCode, withObject, placed, allots}
+use Rattle.store.specs.Allot.{allotted, allotRefused, askable, askedCode, withObject, placed, allotsIn, allots, Parts}
 use Rattle.store.specs.declared.allots.Allotted.{Allotted}
 
--- The needed parts of map and list are lent, with a state that suits the heap.
-pub record Lent (state : State) (heap map list : List ℕ) (rooms : Rooms) : Type 0 where
-  pub suited : Suited state heap rooms
-  pub map-fits : rooms .map ≤ length map
-  pub list-fits : rooms .list ≤ length list
-
--- The number, by the tests of the limits and of the lengths, where the room figures are worked out.
+-- The ways out of the whole call, where the room figures are worked out.
 module _ (state : State) (heap map list : List ℕ) (s p : ℕ) {rooms : Rooms} (e : rooms ≡ roomsOf (state .words) (state .keep)) where
   -- The first test as the code makes it.
   abbrev Allowed : Bool → Type 0
@@ -46,60 +39,58 @@ module _ (state : State) (heap map list : List ℕ) (s p : ℕ) {rooms : Rooms} 
   abbrev Long : Bool → Type 0
   Long b = leb (rooms .map) (length map) && leb (rooms .list) (length list) ≡ b
 
-  -- Where the state does not suit the heap it is 1.
-  pub allot-limits : Allowed false → 1 ≡ allotCode state heap map list s p
-  unfolding allotCode
+  -- Where the state does not suit the heap it refuses with 1.
+  pub allot-limits : Allowed false → allotted (allotRefused 1 state) heap map list ≡ allots state heap map list s p
+  unfolding allots
   allot-limits out = rw (← suits-tells state heap e, out)
 
   module _ (test : Allowed true) where
     ok : Suited state heap rooms
     ok = suited state heap e test
 
-    -- With a short buffer it is 2.
-    pub allot-short : Long false → 2 ≡ allotCode state heap map list s p
-    unfolding allotCode
+    -- With a short buffer it refuses with 2.
+    pub allot-short : Long false → allotted (allotRefused 2 state) heap map list ≡ allots state heap map list s p
+    unfolding allots
     allot-short short = rw (is-suited ok, ← ok .map-room, ← ok .list-room, short)
 
-    -- Else the needed parts are there.
-    pub lent : Long true → Lent state heap map list rooms
-    lent long =
-        let x = and-eq-true-iff (leb (rooms .map) (length map)) _ .0 long in
-        record { suited = ok; map-fits = leb-true (rooms .map) (length map) (x .0); list-fits = leb-true (rooms .list) (length list) (x .1) }
+    -- Else the needed parts are there, and what is left in them is left in front of the rest.
+    module _ (long : Long true) where
+      pub fits : (rooms .map ≤ length map) × (rooms .list ≤ length list)
+      fits =
+          let x = and-eq-true-iff (leb (rooms .map) (length map)) _ .0 long in
+          (leb-true (rooms .map) (length map) (x .0), leb-true (rooms .list) (length list) (x .1))
 
--- The number, by the list and by what is asked for, where the needed parts are lent.
-module _ {state : State} {heap map list : List ℕ} {rooms : Rooms} (x : Lent state heap map list rooms) where
-  -- The list's needed part.
-  pub part-size : length (take (rooms .list) list) ≡ listWords (state .words) (state .keep)
-  part-size = length-take-le (rooms .list) list (x .list-fits) ∙ x .suited .list-room
+      pub parts : Parts state heap (take (rooms .map) map) (take (rooms .list) list)
+      parts = record {
+        suit = is-suited ok;
+        map-size = length-take-le (rooms .map) map (fits .0) ∙ ok .map-room;
+        list-size = length-take-le (rooms .list) list (fits .1) ∙ ok .list-room;
+      }
 
-  module _ (s p : ℕ) {valid : Bool} (v : valid ≡ validList (state .words) (state .keep) (state .count) (take (rooms .list) list)) where
-    decides : allotCode state heap map list s p ≡ unless valid 3 (unless (askable (state .keep) s p) 7 0)
-    unfolding allotCode
-    decides =
-        rw (
-          is-suited (x .suited),
-          ← x .suited .map-room,
-          ← x .suited .list-room,
-          le-leb (rooms .map) (length map) (x .map-fits),
-          le-leb (rooms .list) (length list) (x .list-fits),
-          valid-part (state .words) (state .keep) (state .count) list (x .suited .list-room) v,
-        )
+      pub allot-parts : {r : Allotted} {heap′ map′ list′ : List ℕ} → allotted r heap′ map′ list′ ≡ allotsIn state heap (take (rooms .map) map) (take (rooms .list) list) s p
+          → allotted r heap′ (map′ ++ drop (rooms .map) map) (list′ ++ drop (rooms .list) list) ≡ allots state heap map list s p
+      unfolding allots
+      allot-parts q = rw (is-suited ok, ← ok .map-room, ← ok .list-room, long, ← q) refl
 
-    -- With a bad list it is 3, with numbers that no object has 7, and else 0.
-    pub allot-list : valid ≡ false → 3 ≡ allotCode state heap map list s p
-    allot-list bad = rw (decides, bad)
+-- The number by the list and by what is asked for, where the list was tested.
+module _ (h t count : ℕ) (list : List ℕ) (s p : ℕ) {valid : Bool} (v : valid ≡ validList h t count list) where
+  pub asked-list : valid ≡ false → 3 ≡ askedCode h t count list s p
+  unfolding askedCode
+  asked-list bad = rw (← v, bad)
 
-    pub allot-numbers : valid ≡ true → askable (state .keep) s p ≡ false → 7 ≡ allotCode state heap map list s p
-    allot-numbers good bad = rw (decides, good, bad)
+  pub asked-numbers : valid ≡ true → askable t s p ≡ false → 7 ≡ askedCode h t count list s p
+  unfolding askedCode
+  asked-numbers good bad = rw (← v, good, bad)
 
-    pub allot-none : valid ≡ true → askable (state .keep) s p ≡ true → 0 ≡ allotCode state heap map list s p
-    allot-none good able = rw (decides, good, able)
+  pub asked-none : valid ≡ true → askable t s p ≡ true → 0 ≡ askedCode h t count list s p
+  unfolding askedCode
+  asked-none good able = rw (← v, good, able)
 
 -- What is known before the choice, where no refusal was given.
 pub record Ready (state : State) (heap map list : List ℕ) (s p : ℕ) : Type 0 where
   pub limits : Limits (state .words) (state .keep)
   pub same : length heap ≡ state .words
-  pub bits : mapWords (state .words) ≤ length map
+  pub bits : length map ≡ mapWords (state .words)
   pub room : 2 * state .count ≤ length list
   pub ordered : Ordered (state .keep) 1 (state .words) 1 (records (state .count) list)
   pub small : s ≤ 65535
@@ -109,49 +100,46 @@ pub record Ready (state : State) (heap map list : List ℕ) (s p : ℕ) : Type 0
 pub record Chosen (state : State) (heap map list : List ℕ) (s p j : ℕ) : Type 0 where
   pub ready : Ready state heap map list s p
   pub front : In (records (state .count) list) (intervalAt (records (state .count) list) j .start) s j
-  pub left : allots state heap map list s p ≡ placed state heap map list s p (At j)
+  pub left : allotsIn state heap map list s p ≡ placed state heap map list s p (At j)
 
--- The answer, where the number is worked out.
-module _ (state : State) (heap map list : List ℕ) (s p : ℕ) {code : ℕ} (e : code ≡ allotCode state heap map list s p) where
+-- The answer in the needed parts, where the number is worked out.
+module _ {state : State} {heap map list : List ℕ} (z : Parts state heap map list) (s p : ℕ) {code : ℕ} (e : code ≡ askedCode (state .words) (state .keep) (state .count) list s p) where
   -- Any number but 0 is a refusal.
-  pub allot-refused : code ≢ 0 → allotted (allotRefused code state) heap map list ≡ allots state heap map list s p
-  unfolding allots
-  allot-refused z = rw (← e, ne-eqb code 0 z)
+  pub allot-refused : code ≢ 0 → allotted (allotRefused code state) heap map list ≡ allotsIn state heap map list s p
+  unfolding allotsIn
+  allot-refused some = rw (← e, ne-eqb code 0 some)
 
-  module _ (z : code ≡ 0) where
+  module _ (none : code ≡ 0) where
     pub ready : Ready state heap map list s p
-    unfolding allotCode
+    unfolding askedCode
     ready =
         let h : ℕ = state .words in
         let t : ℕ = state .keep in
-        let x = no-refusal (suits state heap) 0 _ (sym e ∙ z) in
-        let y = no-refusal (leb (mapWords h) (length map) && leb (listWords h t) (length list)) 1 _ (x .1) in
-        let v = no-refusal (validList h t (state .count) list) 2 _ (y .1) in
+        let v = no-refusal (validList h t (state .count) list) 2 _ (sym e ∙ none) in
         let q = no-refusal (askable t s p) 6 0 (v .1) in
-        let own = suits-limits state heap (x .0) in
-        let long = and-eq-true-iff (leb (mapWords h) (length map)) _ .0 (y .0) in
-        let list-ok = valid-ordered h t (state .count) list (v .0) in
+        let own = suits-limits state heap (z .suit) in
+        let o = valid-ordered h t (state .count) list (v .0) in
         let able = and-eq-true-iff (leb t s && leb s 65535) _ .0 (q .0) in
         record {
           limits = own .0;
           same = own .1;
-          bits = leb-true (mapWords h) (length map) (long .0);
-          room = omega (arith, list-ok .0, leb-true (listWords h t) (length list) (long .1));
-          ordered = list-ok .1;
+          bits = z .map-size;
+          room = omega (arith, o .0, z .list-size);
+          ordered = o .1;
           small = leb-true s 65535 (and-eq-true-iff (leb t s) _ .0 (able .0) .1);
           fewer = ltb-true p s (able .1);
         }
 
     module _ {f : Found} (q : f ≡ fitting s (records (state .count) list)) where
       -- Where no interval has the words it refuses with 8.
-      pub allot-full : f ≡ Nothing → allotted (allotRefused 8 state) heap map list ≡ allots state heap map list s p
-      unfolding allots placed
-      allot-full none = rw (← e, z, ← q, none)
+      pub allot-full : f ≡ Nothing → allotted (allotRefused 8 state) heap map list ≡ allotsIn state heap map list s p
+      unfolding allotsIn placed
+      allot-full nothing = rw (← e, none, ← q, nothing)
 
       -- Else one is chosen.
       pub chosen : {j : ℕ} → f ≡ At j → Chosen state heap map list s p j
-      unfolding allots
-      chosen {j} at = record { ready = ready; front = fitting-in s (records (state .count) list) q j at; left = rw (← e, z, ← q, at) }
+      unfolding allotsIn
+      chosen {j} at = record { ready = ready; front = fitting-in s (records (state .count) list) q j at; left = rw (← e, none, ← q, at) }
 
 -- The interval at place j was chosen.
 module _ {state : State} {heap map list : List ℕ} {s p j : ℕ} (x : Chosen state heap map list s p j) where
@@ -190,7 +178,7 @@ module _ {state : State} {heap map list : List ℕ} {s p j : ℕ} (x : Chosen st
 
     -- What is left then.
     pub allot-placed : {count : ℕ} {heap′ map′ list′ : List ℕ} → count ≡ length (withoutFront (state .keep) s l j) → list′ ≡ relisted (state .count) (withoutFront (state .keep) s l j) list → heap′ ≡ withObject heap (r .start) s p → map′ ≡ setBit map (r .start)
-        → allotted (record { code = 0; address = r .start; state = record { words = state .words; keep = state .keep; count = count } }) heap′ map′ list′ ≡ allots state heap map list s p
+        → allotted (record { code = 0; address = r .start; state = record { words = state .words; keep = state .keep; count = count } }) heap′ map′ list′ ≡ allotsIn state heap map list s p
     unfolding placed
     allot-placed en el eh em = rw (x .left, en, el, eh, em, starts) refl
 

@@ -1,6 +1,6 @@
 -- Laws of a survey.
 use Prim.Native.Nat.{ℕ, _*_, _≤_, _<_}
-use mathlib.Core.Path.{_≡_, _∙_}
+use mathlib.Core.Path.{_≡_, sym, _∙_}
 use mathlib.Core.Logic.{_≢_}
 use mathlib.Core.Bool.{Bool, true, false}
 use mathlib.Core.List.{List}
@@ -16,7 +16,7 @@ use Rattle.runs.specs.Lists.{listed}
 use Rattle.runs.specs.SumLaws.{ordered-listed}
 use Rattle.freelist.specs.Figures.{figuresOf}
 use Rattle.freelist.specs.Records.{records, validList}
-use Rattle.freelist.specs.RecordsLaws.{valid-part, valid-ordered}
+use Rattle.freelist.specs.RecordsLaws.{valid-ordered}
 use Rattle.freelist.specs.declared.figures.Figures.{Figures}
 use Rattle.store.specs.Survey.{surveyRefused, surveys}
 
@@ -37,27 +37,26 @@ module _ (state : State) (list : List ℕ) {rooms : Rooms} (e : rooms ≡ roomsO
     survey-short short = rw (allowed (state .words) (state .keep) e some, ← room, lt-leb (rooms .list) (length list) short)
 
     module _ (long : rooms .list ≤ length list) where
-      -- Else the list's needed part is there.
-      pub survey-part : length (take (rooms .list) list) ≡ listWords (state .words) (state .keep)
+      -- Else the list's needed part is there, and it decides.
+      abbrev part : List ℕ
+      part = take (rooms .list) list
+
+      pub survey-part : length part ≡ listWords (state .words) (state .keep)
       survey-part = length-take-le (rooms .list) list long ∙ room
 
-      -- Then the list decides.
-      module _ {valid : Bool} (v : valid ≡ validList (state .words) (state .keep) (state .count) (take (rooms .list) list)) where
-        rule : validList (state .words) (state .keep) (state .count) list ≡ valid
-        rule = valid-part (state .words) (state .keep) (state .count) list room v
-
+      module _ {valid : Bool} (v : valid ≡ validList (state .words) (state .keep) (state .count) part) where
         -- A bad one it refuses with 3.
         pub survey-list : valid ≡ false → surveyRefused 3 ≡ surveys state list
         unfolding surveys
-        survey-list bad = rw (allowed (state .words) (state .keep) e some, ← room, le-leb (rooms .list) (length list) long, rule, bad)
+        survey-list bad = rw (allowed (state .words) (state .keep) e some, ← room, le-leb (rooms .list) (length list) long, ← v, bad)
 
         -- Of any other the figures can be had, and are its answer.
         module _ (good : valid ≡ true) where
-          pub survey-asks : (2 * state .count ≤ length list) × (listed (records (state .count) list) < 65536)
+          pub survey-asks : (2 * state .count ≤ length part) × (listed (records (state .count) part) < 65536)
           survey-asks =
-              let o = valid-ordered (state .words) (state .keep) (state .count) list (rule ∙ good) in
-              (omega (arith, o .0, room), omega (arith, ordered-listed (o .1), limits (state .words) (state .keep) (allowed (state .words) (state .keep) e some)))
+              let o = valid-ordered (state .words) (state .keep) (state .count) part (sym v ∙ good) in
+              (omega (arith, o .0, survey-part), omega (arith, ordered-listed (o .1), limits (state .words) (state .keep) (allowed (state .words) (state .keep) e some)))
 
-          pub survey-figures : {f : Figures} → f ≡ figuresOf (records (state .count) list) → record { code = 0; figures = f } ≡ surveys state list
+          pub survey-figures : {f : Figures} → f ≡ figuresOf (records (state .count) part) → record { code = 0; figures = f } ≡ surveys state list
           unfolding surveys
-          survey-figures q = rw (allowed (state .words) (state .keep) e some, ← room, le-leb (rooms .list) (length list) long, rule, good, q)
+          survey-figures q = rw (allowed (state .words) (state .keep) e some, ← room, le-leb (rooms .list) (length list) long, ← v, good, q)

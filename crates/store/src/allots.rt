@@ -10,7 +10,8 @@ use words::bits;
 ghost use mathlib.Core.Path.{_≡_};
 ghost use Prim.Native.Nat.{_+_, _≤_, _<_};
 ghost use lib.ListN.{length};
-ghost use Rattle.store.specs.Allot.{allotCode, allotRefused, withObject, allotted, allots};
+ghost use Rattle.layout.specs.Limits.{listWords};
+ghost use Rattle.store.specs.Allot.{askedCode, allotRefused, withObject, allotted, allotsIn, allots, Parts};
 
 // What an allot answers: the refusal's number or 0, the new object's address, and the state.
 pub struct Allotted {
@@ -32,9 +33,35 @@ pub fn allot(
         ⌜ allotted r (now (heap .exit)) (now (map .exit)) (now (list .exit)) ≡ allots state (now (heap .entry)) (now (map .entry)) (now (list .entry)) s p ⌝ }
 {
     let words = state.words;
+    let rooms = Rooms::of(words, state.keep);
+    let m = rooms.map;
+    let n = rooms.list;
+    if !((0 < m) & (heap.len() == words)) {
+        return refused(1, state);
+    }
+    if !((m <= map.len()) & (n <= list.len())) {
+        return refused(2, state);
+    }
+    allot_in(state, heap, &mut map[..m], &mut list[..n], s, p)
+}
+
+// An allot in the needed parts of map and list.
+fn allot_in(
+    state: State,
+    heap: &mut [u32],
+    map: &mut [u32],
+    list: &mut [u32],
+    s: usize,
+    p: usize,
+) -> Allotted
+    requires { ⌜ Parts state (now heap) (now map) (now list) ⌝ }
+    ensures { λ r.
+        ⌜ allotted r (now (heap .exit)) (now (map .exit)) (now (list .exit)) ≡ allotsIn state (now (heap .entry)) (now (map .entry)) (now (list .entry)) s p ⌝ }
+{
+    let words = state.words;
     let keep = state.keep;
     let count = state.count;
-    let code = allot_code(state, heap, map, list, s, p);
+    let code = asked_code(list, count, words, keep, s, p);
     if code != 0 {
         return refused(code, state);
     }
@@ -57,24 +84,12 @@ pub fn allot(
     }
 }
 
-// The number with which an allot is refused before it looks for words, or 0.
-fn allot_code(state: State, heap: &[u32], map: &[u32], list: &[u32], s: usize, p: usize) -> u32
-    ensures { λ r.
-        ⌜ r ≡ allotCode state (now (heap .entry)) (now (map .entry)) (now (list .entry)) s p ⌝ }
+// The number with which an allot is refused before an interval is chosen, or 0.
+fn asked_code(list: &[u32], count: usize, words: usize, keep: usize, s: usize, p: usize) -> u32
+    requires { ⌜ length (now list) ≡ listWords words keep ⌝ }
+    ensures { λ r. ⌜ r ≡ askedCode words keep count (now (list .entry)) s p ⌝ }
 {
-    let words = state.words;
-    let keep = state.keep;
-    let count = state.count;
-    let rooms = Rooms::of(words, keep);
-    let m = rooms.map;
-    let n = rooms.list;
-    if !((0 < m) & (heap.len() == words)) {
-        return 1;
-    }
-    if !((m <= map.len()) & (n <= list.len())) {
-        return 2;
-    }
-    if !records::are_valid(&list[..n], count, words, keep) {
+    if !records::are_valid(list, count, words, keep) {
         return 3;
     }
     if !((keep <= s) & (s <= 65535) & (p < s)) {

@@ -27,10 +27,11 @@ pub fn survey(state: State, list: &[u32]) -> Surveyed
     if list.len() < n {
         return refused(2);
     }
-    if !records::are_valid(&list[..n], count, words, keep) {
+    let part = &list[..n];
+    if !records::are_valid(part, count, words, keep) {
         return refused(3);
     }
-    let figures = Figures::of(list, count);
+    let figures = Figures::of(part, count);
     Surveyed { code: 0, figures }
 }
 

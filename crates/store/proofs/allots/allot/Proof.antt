@@ -1,29 +1,47 @@
 -- `allot`: each way out is a law of `allots`.
+use Prim.Native.Nat.{_≤_}
+use mathlib.Core.Path.{sym}
+use lib.ListN.{length}
+use lib.Seq.{length-take-le}
 use borrow.Author.Needs.{needs}
-use Rattle.store.specs.AllotLaws.{Ready, Chosen, ready, chosen, allot-refused, allot-full, record-asks, front-asks, lay-asks, bit-asks, allot-placed}
+use borrow.Author.Tests.{not-true, not-false}
+use Rattle.store.specs.AllotLaws.{allot-limits, allot-short, fits, parts, allot-parts}
 use Rattle.store.proofs.allots.allot.Statement.{statement}
 use Rattle.store.proofs.allots.allot.Tie as tie
 
--- What was lent, seen from where the number is known.
-abbrev begin : tie.After-allot-code → tie.Start
-begin c = c .before .before .before .before .before .before .before
+-- The buffers are long enough.
+are-long : (c : tie.Else2) → let t = c .before .before .before .before .before .before .args in let rooms = c .before .before .of .result in (rooms .map ≤ length (t .map .now)) × (rooms .list ≤ length (t .list .now))
+are-long c = let t = c .before .before .before .before .before .before .args in fits (t .state) (t .heap .now) (t .map .now) (t .list .now) (t .s) (t .p) (c .before .before .of .ensures) (not-false _ (c .before .if1 .left)) (not-false _ (c .if2 .left))
 
--- No refusal was given.
-is-ready : (c : tie.Else1) → let t = begin (c .before) .args in Ready (t .state) (t .heap .now) (t .map .now) (t .list .now) (t .s) (t .p)
-is-ready c = let t = begin (c .before) .args in ready (t .state) (t .heap .now) (t .map .now) (t .list .now) (t .s) (t .p) (c .before .allot-code .ensures) (c .if1 .left)
-
--- An interval was chosen.
-is-chosen : (c : tie.After-j) → let t = begin (c .before .before .before .before .before) .args in Chosen (t .state) (t .heap .now) (t .map .now) (t .list .now) (t .s) (t .p) (c .j .given .0 .0)
-is-chosen c =
-    let d = c .before .before .before .before in
-    let t = begin (d .before) .args in
-    chosen (t .state) (t .heap .now) (t .map .now) (t .list .now) (t .s) (t .p) (d .before .allot-code .ensures) (d .if1 .left) (c .before .before .fitting .ensures) (c .j .given .1)
-
-allot-code-requires : tie.Need-allot-code-requires
-allot-code-requires c κs = search needs
+of-requires : tie.Need-of-requires
+of-requires c κs = search needs
 
 refused-requires : tie.Need-refused-requires
 refused-requires c κs = search needs
+
+returns : tie.Need-returns
+returns c = let t = c .before .before .before .before .before .before .args in rw (c .refused .ensures) (allot-limits (t .state) (t .heap .now) (t .map .now) (t .list .now) (t .s) (t .p) (c .before .before .of .ensures) (not-true _ (c .before .if1 .taken)))
+
+refused-requires-2 : tie.Need-refused-requires-2
+refused-requires-2 c κs = search needs
+
+returns-2 : tie.Need-returns-2
+returns-2 c = let t = c .before .before .before .before .before .before .before .args in rw (c .refused2 .ensures) (allot-short (t .state) (t .heap .now) (t .map .now) (t .list .now) (t .s) (t .p) (c .before .before .before .of .ensures) (not-false _ (c .before .before .if1 .left)) (not-true _ (c .before .if2 .taken)))
+
+slice-relend-prefix-allot-in : tie.Need-slice-relend-prefix-allot-in
+slice-relend-prefix-allot-in c = are-long (c .before) .0
+
+slice-aggregate-allot-in : tie.Need-slice-aggregate-allot-in
+slice-aggregate-allot-in c = sym (length-take-le _ _ (are-long (c .before .before) .0))
+
+slice-relend-prefix-allot-in-2 : tie.Need-slice-relend-prefix-allot-in-2
+slice-relend-prefix-allot-in-2 c = are-long (c .before .before) .1
+
+slice-aggregate-allot-in-2 : tie.Need-slice-aggregate-allot-in-2
+slice-aggregate-allot-in-2 c = sym (length-take-le _ _ (are-long (c .before .before .before) .1))
+
+allot-in-requires : tie.Need-allot-in-requires
+allot-in-requires c κs = let t = c .before .before .before .before .before .before .before .before .before .args in parts (t .state) (t .heap .now) (t .map .now) (t .list .now) (t .s) (t .p) (c .before .before .before .before .before .of .ensures) (not-false _ (c .before .before .before .before .if1 .left)) (not-false _ (c .before .before .before .if2 .left))
 
 same-length : tie.Need-same-length
 same-length c = search needs
@@ -34,86 +52,24 @@ same-length-2 c = search needs
 same-length-3 : tie.Need-same-length-3
 same-length-3 c = search needs
 
-returns : tie.Need-returns
-returns c =
-    let d = c .before .before in
-    let t = begin d .args in
-    rw (c .refused .ensures) (allot-refused (t .state) (t .heap .now) (t .map .now) (t .list .now) (t .s) (t .p) (d .allot-code .ensures) (c .before .if1 .taken))
-
-fitting-requires : tie.Need-fitting-requires
-fitting-requires c κs = is-ready (c .before) .room
-
-enum-known-j : tie.Need-enum-known-j
-enum-known-j c = search needs
-
-enum-told : tie.Need-enum-told
-enum-told c = search needs
-
-refused-requires-2 : tie.Need-refused-requires-2
-refused-requires-2 c κs = search needs
-
-same-length-4 : tie.Need-same-length-4
-same-length-4 c = search needs
-
-same-length-5 : tie.Need-same-length-5
-same-length-5 c = search needs
-
-same-length-6 : tie.Need-same-length-6
-same-length-6 c = search needs
-
-returns-2 : tie.Need-returns-2
-returns-2 c =
-    let d = c .before .before .before .before .before in
-    let t = begin (d .before) .args in
-    rw (c .refused2 .ensures) (allot-full (t .state) (t .heap .now) (t .map .now) (t .list .now) (t .s) (t .p) (d .before .allot-code .ensures) (d .if1 .left) (c .before .before .before .fitting .ensures) (c .before .enum-told .given .1))
-
-at-requires : tie.Need-at-requires
-at-requires c κs = record-asks (is-chosen (c .before .before))
-
-take-front-requires : tie.Need-take-front-requires
-take-front-requires c κs = front-asks (is-chosen (c .before .before .before .before))
-
-lay-requires : tie.Need-lay-requires
-lay-requires c κs = lay-asks (is-chosen (c .before .before .before .before .before .before .before .before)) (c .before .before .before .before .before .at .ensures .0)
-
-set-requires : tie.Need-set-requires
-set-requires c κs = bit-asks (is-chosen (c .before .before .before .before .before .before .before .before .before .before .before .before)) (c .before .before .before .before .before .before .before .before .before .at .ensures .0)
-
-same-length-7 : tie.Need-same-length-7
-same-length-7 c = search needs
-
-same-length-8 : tie.Need-same-length-8
-same-length-8 c = search needs
-
-same-length-9 : tie.Need-same-length-9
-same-length-9 c = search needs
-
 returns-3 : tie.Need-returns-3
-returns-3 c = allot-placed (is-chosen (c .before .before .before .before .before .before .before .before .before .before .before .before .before .before .before)) (c .before .before .before .before .before .before .before .before .before .before .before .before .at .ensures .0) (c .before .before .before .before .before .before .before .before .before .before .take-front .ensures .0) (c .before .before .before .before .before .before .before .before .before .before .take-front .ensures .1) (c .before .before .before .before .before .before .lay .ensures) (c .before .before .set .ensures)
+returns-3 c = let t = c .before .before .before .before .before .before .before .before .before .before .before .before .before .before .before .before .args in allot-parts (t .state) (t .heap .now) (t .map .now) (t .list .now) (t .s) (t .p) (c .before .before .before .before .before .before .before .before .before .before .before .before .of .ensures) (not-false _ (c .before .before .before .before .before .before .before .before .before .before .before .if1 .left)) (not-false _ (c .before .before .before .before .before .before .before .before .before .before .if2 .left)) (c .before .before .before .before .before .before .allot-in .ensures)
 
 pub allot-spec : {M : Type 1} → statement M
 allot-spec =
     tie.close
     (tie.spec
-    allot-code-requires
+    of-requires
     refused-requires
+    returns
+    refused-requires-2
+    returns-2
+    slice-relend-prefix-allot-in
+    slice-aggregate-allot-in
+    slice-relend-prefix-allot-in-2
+    slice-aggregate-allot-in-2
+    allot-in-requires
     same-length
     same-length-2
     same-length-3
-    returns
-    fitting-requires
-    enum-known-j
-    enum-told
-    refused-requires-2
-    same-length-4
-    same-length-5
-    same-length-6
-    returns-2
-    at-requires
-    take-front-requires
-    lay-requires
-    set-requires
-    same-length-7
-    same-length-8
-    same-length-9
     returns-3)

@@ -22,8 +22,8 @@ refused-requires-2 c κs = search needs
 returns-2 : tie.Need-returns-2
 returns-2 c = let t = c .before .before .before .before .before .before .args in c .refused2 .ensures ∙ survey-short (t .state) (t .list .now) (c .before .before .before .before .of .ensures) (c .before .before .if1 .left) (c .before .if2 .taken)
 
-slice-aggregate-are-valid : tie.Need-slice-aggregate-are-valid
-slice-aggregate-are-valid c = let t = c .before .before .before .before .before .before .args in sym (length-take-le _ (t .list .now) (c .before .if2 .left))
+slice-aggregate-part : tie.Need-slice-aggregate-part
+slice-aggregate-part c = let t = c .before .before .before .before .before .before .args in sym (length-take-le _ (t .list .now) (c .before .if2 .left))
 
 are-valid-requires : tie.Need-are-valid-requires
 are-valid-requires c κs = let t = c .before .before .before .before .before .before .args in survey-part (t .state) (t .list .now) (c .before .before .before .before .of .ensures) (c .before .before .if1 .left) (c .before .if2 .left)
@@ -49,7 +49,7 @@ survey-spec =
     returns
     refused-requires-2
     returns-2
-    slice-aggregate-are-valid
+    slice-aggregate-part
     are-valid-requires
     refused-requires-3
     returns-3
