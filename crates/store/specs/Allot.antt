@@ -20,15 +20,15 @@ use Rattle.split.specs.Relisted.{relisted}
 use Rattle.store.specs.declared.allots.Allotted.{Allotted}
 
 -- What an allot answers, and what stands in heap, map and list afterwards.
-pub record Left : Type 0 where
+pub record Allotment : Type 0 where
   pub answer : Allotted
   pub heap : List ℕ
   pub map : List ℕ
   pub list : List ℕ
 
 -- The answer and the buffers, put together.
-abbrev pub allotted : Allotted → List ℕ → List ℕ → List ℕ → Left
-allotted answer heap map list = record { answer = answer; heap = heap; map = map; list = list }
+abbrev pub allotment : Allotted → List ℕ → List ℕ → List ℕ → Allotment
+allotment answer heap map list = record { answer = answer; heap = heap; map = map; list = list }
 
 -- A refused allot has its number, no address, and the state that it got.
 abbrev pub allotRefused : ℕ → State → Allotted
@@ -50,8 +50,8 @@ unfoldable pub withObject : List ℕ → ℕ → ℕ → ℕ → List ℕ
 withObject heap a s p = take a heap ++ (headerWord s p ∷ replicate (s - 1) 0) ++ drop (a + s) heap
 
 -- What is left where an interval was chosen: its front is the new object; refusal 8 where none was.
-unfoldable pub placed : State → List ℕ → List ℕ → List ℕ → ℕ → ℕ → Found → Left
-placed state heap map list s p Nothing = allotted (allotRefused 8 state) heap map list
+unfoldable pub placed : State → List ℕ → List ℕ → List ℕ → ℕ → ℕ → Found → Allotment
+placed state heap map list s p Nothing = allotment (allotRefused 8 state) heap map list
 placed state heap map list s p (At j) =
     let l : List Interval = records (state .count) list in
     let a : ℕ = intervalAt l j .start in
@@ -64,22 +64,22 @@ placed state heap map list s p (At j) =
     }
 
 -- An allot of s words with p references in the needed parts of map and list.
-unfoldable pub allotsIn : State → List ℕ → List ℕ → List ℕ → ℕ → ℕ → Left
+unfoldable pub allotsIn : State → List ℕ → List ℕ → List ℕ → ℕ → ℕ → Allotment
 allotsIn state heap map list s p =
     let code : ℕ = askedCode (state .words) (state .keep) (state .count) list s p in
-    unless (eqb code 0) (allotted (allotRefused code state) heap map list)
+    unless (eqb code 0) (allotment (allotRefused code state) heap map list)
     (placed state heap map list s p (fitting s (records (state .count) list)))
 
 -- An allot: from the state and all that is lent to all that is left, refusals 1 and 2 first.
-unfoldable pub allots : State → List ℕ → List ℕ → List ℕ → ℕ → ℕ → Left
+unfoldable pub allots : State → List ℕ → List ℕ → List ℕ → ℕ → ℕ → Allotment
 allots state heap map list s p =
     let m : ℕ = mapWords (state .words) in
     let n : ℕ = listWords (state .words) (state .keep) in
-    let refuse : ℕ → Left = λ code. allotted (allotRefused code state) heap map list in
-    let parts : Left = allotsIn state heap (take m map) (take n list) s p in
+    let refuse : ℕ → Allotment = λ code. allotment (allotRefused code state) heap map list in
+    let parts : Allotment = allotsIn state heap (take m map) (take n list) s p in
     unless (suits state heap) (refuse 1)
     (unless (leb m (length map) && leb n (length list)) (refuse 2)
-    (allotted (parts .answer) (parts .heap) (parts .map ++ drop m map) (parts .list ++ drop n list)))
+    (allotment (parts .answer) (parts .heap) (parts .map ++ drop m map) (parts .list ++ drop n list)))
 
 -- The needed parts are lent, with a state that suits the heap.
 pub record Parts (state : State) (heap map list : List ℕ) : Type 0 where

@@ -1,15 +1,14 @@
 -- Laws of an allot.
-use Prim.Native.Nat.{ℕ, suc, _+_, _-_, _*_, _/_, _≤_, _<_}
+use Prim.Native.Nat.{ℕ, _+_, _*_, _/_, _≤_, _<_}
 use mathlib.Core.Path.{_≡_, refl, sym, ap, _∙_}
 use mathlib.Core.Logic.{_≢_}
 use mathlib.Core.Bool.{Bool, true, false, _&&_, and-eq-true-iff}
-use mathlib.Core.List.{List, [], _∷_, _++_, append-assoc}
+use mathlib.Core.List.{List, _++_}
 use native.Mathlib.Omega.{arith}
-use lib.ListN.{length, take, drop, set, replicate, length-append, length-drop, length-replicate, length-set}
-use lib.Seq.{length-take-le, take-suc-set, drop-set-lt, drop-drop, append-snoc}
+use lib.ListN.{length, take, drop}
+use lib.Seq.{length-take-le}
 use lib.Dec.{leb, ltb, eqb}
 use borrow.Author.Tests.{leb-true, ltb-true, ne-eqb}
-use Rattle.words.specs.Header.{headerWord}
 use Rattle.words.specs.Map.{setBit}
 use Rattle.layout.specs.Limits.{mapWords, roomsOf}
 use Rattle.layout.specs.LimitsLaws.{Limits, Suited, suits-tells, suited, is-suited, suits-limits, bit-inside}
@@ -26,7 +25,7 @@ use Rattle.freelist.specs.SearchLaws.{fitting-in}
 use Rattle.freelist.specs.declared.search.Found.{Found}
 use Rattle.freelist.specs.declared.search.Found.the-variants.{At, Nothing}
 use Rattle.split.specs.Relisted.{relisted}
-use Rattle.store.specs.Allot.{allotted, allotRefused, askable, askedCode, withObject, placed, allotsIn, allots, Parts}
+use Rattle.store.specs.Allot.{allotment, allotRefused, askable, askedCode, withObject, placed, allotsIn, allots, Parts}
 use Rattle.store.specs.declared.allots.Allotted.{Allotted}
 
 -- The ways out of the whole call, where the room figures are worked out.
@@ -40,7 +39,7 @@ module _ (state : State) (heap map list : List ℕ) (s p : ℕ) {rooms : Rooms} 
   Long b = leb (rooms .map) (length map) && leb (rooms .list) (length list) ≡ b
 
   -- Where the state does not suit the heap it refuses with 1.
-  pub allot-limits : Allowed false → allotted (allotRefused 1 state) heap map list ≡ allots state heap map list s p
+  pub allot-limits : Allowed false → allotment (allotRefused 1 state) heap map list ≡ allots state heap map list s p
   unfolding allots
   allot-limits out = rw (← suits-tells state heap e, out)
 
@@ -49,7 +48,7 @@ module _ (state : State) (heap map list : List ℕ) (s p : ℕ) {rooms : Rooms} 
     ok = suited state heap e test
 
     -- With a short buffer it refuses with 2.
-    pub allot-short : Long false → allotted (allotRefused 2 state) heap map list ≡ allots state heap map list s p
+    pub allot-short : Long false → allotment (allotRefused 2 state) heap map list ≡ allots state heap map list s p
     unfolding allots
     allot-short short = rw (is-suited ok, ← ok .map-room, ← ok .list-room, short)
 
@@ -67,8 +66,8 @@ module _ (state : State) (heap map list : List ℕ) (s p : ℕ) {rooms : Rooms} 
         list-size = length-take-le (rooms .list) list (fits .1) ∙ ok .list-room;
       }
 
-      pub allot-parts : {r : Allotted} {heap′ map′ list′ : List ℕ} → allotted r heap′ map′ list′ ≡ allotsIn state heap (take (rooms .map) map) (take (rooms .list) list) s p
-          → allotted r heap′ (map′ ++ drop (rooms .map) map) (list′ ++ drop (rooms .list) list) ≡ allots state heap map list s p
+      pub allot-parts : {r : Allotted} {heap′ map′ list′ : List ℕ} → allotment r heap′ map′ list′ ≡ allotsIn state heap (take (rooms .map) map) (take (rooms .list) list) s p
+          → allotment r heap′ (map′ ++ drop (rooms .map) map) (list′ ++ drop (rooms .list) list) ≡ allots state heap map list s p
       unfolding allots
       allot-parts q = rw (is-suited ok, ← ok .map-room, ← ok .list-room, long, ← q) refl
 
@@ -105,7 +104,7 @@ pub record Chosen (state : State) (heap map list : List ℕ) (s p j : ℕ) : Typ
 -- The answer in the needed parts, where the number is worked out.
 module _ {state : State} {heap map list : List ℕ} (z : Parts state heap map list) (s p : ℕ) {code : ℕ} (e : code ≡ askedCode (state .words) (state .keep) (state .count) list s p) where
   -- Any number but 0 is a refusal.
-  pub allot-refused : code ≢ 0 → allotted (allotRefused code state) heap map list ≡ allotsIn state heap map list s p
+  pub allot-refused : code ≢ 0 → allotment (allotRefused code state) heap map list ≡ allotsIn state heap map list s p
   unfolding allotsIn
   allot-refused some = rw (← e, ne-eqb code 0 some)
 
@@ -132,7 +131,7 @@ module _ {state : State} {heap map list : List ℕ} (z : Parts state heap map li
 
     module _ {f : Found} (q : f ≡ fitting s (records (state .count) list)) where
       -- Where no interval has the words it refuses with 8.
-      pub allot-full : f ≡ Nothing → allotted (allotRefused 8 state) heap map list ≡ allotsIn state heap map list s p
+      pub allot-full : f ≡ Nothing → allotment (allotRefused 8 state) heap map list ≡ allotsIn state heap map list s p
       unfolding allotsIn placed
       allot-full nothing = rw (← e, none, ← q, nothing)
 
@@ -178,39 +177,6 @@ module _ {state : State} {heap map list : List ℕ} {s p j : ℕ} (x : Chosen st
 
     -- What is left then.
     pub allot-placed : {count : ℕ} {heap′ map′ list′ : List ℕ} → count ≡ length (withoutFront (state .keep) s l j) → list′ ≡ relisted (state .count) (withoutFront (state .keep) s l j) list → heap′ ≡ withObject heap (r .start) s p → map′ ≡ setBit map (r .start)
-        → allotted (record { code = 0; address = r .start; state = record { words = state .words; keep = state .keep; count = count } }) heap′ map′ list′ ≡ allotsIn state heap map list s p
+        → allotment (record { code = 0; address = r .start; state = record { words = state .words; keep = state .keep; count = count } }) heap′ map′ list′ ≡ allotsIn state heap map list s p
     unfolding placed
     allot-placed en el eh em = rw (x .left, en, el, eh, em, starts) refl
-
--- A header stored at a, and the words behind it cleared up to the object's end.
-module _ (heap : List ℕ) (a s p : ℕ) (some : p < s) (fits : a + s ≤ length heap) where
-  -- The heap with the header.
-  abbrev headed : ℕ → List ℕ
-  headed w = set heap a w
-
-  -- How many words are behind it.
-  abbrev behind : ℕ
-  behind = a + s - (a + 1)
-
-  pub laid : {w : ℕ} {part : List ℕ} → w ≡ headerWord s p → part ≡ replicate (length (take behind (drop (a + 1) (headed w)))) 0 → take (a + 1) (headed w) ++ (part ++ drop behind (drop (a + 1) (headed w))) ≡ withObject heap a s p
-  unfolding withObject
-  laid {w} {part} e q =
-      let one : a + 1 ≡ suc a = omega arith in
-      let front : take (a + 1) (headed w) ≡ take a heap ++ (w ∷ []) = rw one (take-suc-set heap a w (omega arith)) in
-      let long : length (take behind (drop (a + 1) (headed w))) ≡ s - 1 = length-take-le behind (drop (a + 1) (headed w)) (omega (arith, length-drop (a + 1) (headed w), length-set heap a w)) ∙ omega arith in
-      let ends : a + 1 + behind ≡ a + s = omega arith in
-      let rest : drop behind (drop (a + 1) (headed w)) ≡ drop (a + s) heap = ap (drop behind) (drop-set-lt (a + 1) heap a w (omega arith)) ∙ drop-drop behind (a + 1) heap ∙ ap (λ (n : ℕ). drop n heap) ends in
-      rw (front, rest, q, long, e) (sym (append-assoc (take a heap ++ (headerWord s p ∷ [])) (replicate (s - 1) 0) (drop (a + s) heap)) ∙ ap (λ (t : List ℕ). t ++ drop (a + s) heap) (append-snoc (take a heap) (headerWord s p) (replicate (s - 1) 0)))
-
-  -- The heap keeps its length.
-  pub length-laid : length (withObject heap a s p) ≡ length heap
-  unfolding withObject
-  length-laid =
-      omega (
-        arith,
-        length-append (take a heap ++ (headerWord s p ∷ replicate (s - 1) 0)) (drop (a + s) heap),
-        length-append (take a heap) (headerWord s p ∷ replicate (s - 1) 0),
-        length-take-le a heap (omega arith),
-        length-replicate {A = ℕ} (s - 1) 0,
-        length-drop (a + s) heap,
-      )

@@ -11,7 +11,7 @@ ghost use mathlib.Core.Path.{_≡_};
 ghost use Prim.Native.Nat.{_+_, _≤_, _<_};
 ghost use lib.ListN.{length};
 ghost use Rattle.layout.specs.Limits.{listWords};
-ghost use Rattle.store.specs.Allot.{askedCode, allotRefused, withObject, allotted, allotsIn, allots, Parts};
+ghost use Rattle.store.specs.Allot.{askedCode, allotRefused, withObject, allotment, allotsIn, allots, Parts};
 
 // What an allot answers: the refusal's number or 0, the new object's address, and the state.
 pub struct Allotted {
@@ -30,7 +30,7 @@ pub fn allot(
     p: usize,
 ) -> Allotted
     ensures { λ r.
-        ⌜ allotted r (now (heap .exit)) (now (map .exit)) (now (list .exit)) ≡ allots state (now (heap .entry)) (now (map .entry)) (now (list .entry)) s p ⌝ }
+        ⌜ allotment r (now (heap .exit)) (now (map .exit)) (now (list .exit)) ≡ allots state (now (heap .entry)) (now (map .entry)) (now (list .entry)) s p ⌝ }
 {
     let words = state.words;
     let rooms = Rooms::of(words, state.keep);
@@ -56,7 +56,7 @@ fn allot_in(
 ) -> Allotted
     requires { ⌜ Parts state (now heap) (now map) (now list) ⌝ }
     ensures { λ r.
-        ⌜ allotted r (now (heap .exit)) (now (map .exit)) (now (list .exit)) ≡ allotsIn state (now (heap .entry)) (now (map .entry)) (now (list .entry)) s p ⌝ }
+        ⌜ allotment r (now (heap .exit)) (now (map .exit)) (now (list .exit)) ≡ allotsIn state (now (heap .entry)) (now (map .entry)) (now (list .entry)) s p ⌝ }
 {
     let words = state.words;
     let keep = state.keep;

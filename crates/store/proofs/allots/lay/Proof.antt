@@ -2,7 +2,7 @@
 use mathlib.Core.Path.{ap, _∙_}
 use lib.ListN.{length}
 use borrow.Author.Needs.{needs}
-use Rattle.store.specs.AllotLaws.{laid, length-laid}
+use Rattle.store.specs.ObjectLaws.{laid, length-laid}
 use Rattle.store.proofs.allots.lay.Statement.{statement}
 use Rattle.store.proofs.allots.lay.Tie as tie
 
