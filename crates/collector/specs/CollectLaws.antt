@@ -5,11 +5,11 @@ use mathlib.Core.Bool.{Bool, true, false, _&&_, and-eq-true-iff}
 use mathlib.Core.List.{List, _++_}
 use lib.ListN.{length, take, drop, replicate}
 use lib.Seq.{length-take-le}
-use lib.Dec.{ltb, leb, eqb}
+use lib.Dec.{leb}
 use borrow.Author.Tests.{leb-true}
 use Rattle.layout.specs.Intervals.{shown}
 use Rattle.layout.specs.Limits.{maxRoots, listWords, roomsOf}
-use Rattle.layout.specs.LimitsLaws.{limits, Suited, suits-tells, suited}
+use Rattle.layout.specs.LimitsLaws.{limits, suitsBy, Suited, suits-tells, suited}
 use Rattle.layout.specs.SetUp.{firstList}
 use Rattle.layout.specs.declared.Rooms.{Rooms}
 use Rattle.layout.specs.declared.State.{State}
@@ -54,7 +54,7 @@ three-fit {m} {a} {n} map stack list e =
 module _ (state : State) (heap roots map stack list : List ℕ) {rooms : Rooms} (e : rooms ≡ roomsOf (state .words) (state .keep)) where
   -- The first test as the code makes it.
   abbrev pub Allowed : Bool → Type 0
-  Allowed b = ltb 0 (rooms .map) && eqb (length heap) (state .words) && leb (length roots) maxRoots ≡ b
+  Allowed b = suitsBy rooms state heap && leb (length roots) maxRoots ≡ b
 
   -- Out of the limits it refuses with 1.
   pub refuses-limits : Allowed false → left (collectRefused 1 0 state) map stack list ≡ collects state heap roots map stack list
@@ -62,8 +62,8 @@ module _ (state : State) (heap roots map stack list : List ℕ) {rooms : Rooms} 
   refuses-limits out = rw (← suits-tells state heap e, out)
 
   module _ (test : Allowed true) where
-    -- What it tells.
-    tells : (ltb 0 (rooms .map) && eqb (length heap) (state .words) ≡ true) × (leb (length roots) maxRoots ≡ true)
+    -- What the first test tells.
+    tells : (suitsBy rooms state heap ≡ true) × (leb (length roots) maxRoots ≡ true)
     tells = and-eq-true-iff _ _ .0 test
 
     ok : Suited state heap rooms

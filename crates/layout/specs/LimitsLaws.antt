@@ -8,7 +8,7 @@ use native.Mathlib.Nat.{div-le-self}
 use native.Mathlib.Omega.{arith}
 use lib.ListN.{length}
 use lib.Dec.{ltb, eqb}
-use borrow.Author.Tests.{leb-true, ltb-true, eqb-true, lt-ltb, le-ltb, eq-eqb}
+use borrow.Author.Tests.{leb-true, ltb-true, eqb-true, lt-ltb, le-ltb}
 use Rattle.layout.specs.Limits.{maxWords, maxKeep, within, suits, mapWords, stackWords, listRoom, listWords, roomsOf}
 use Rattle.layout.specs.declared.Rooms.{Rooms}
 use Rattle.layout.specs.declared.State.{State}
@@ -51,7 +51,7 @@ rooms-small h t = go (within h t) refl
 -- What the figures that a call has worked out say of the limits.
 module _ (h t : ℕ) {rooms : Rooms} (e : rooms ≡ roomsOf h t) where
   -- The map figure tells whether they are kept.
-  pub map-tells : ltb 0 (rooms .map) ≡ within h t
+  map-tells : ltb 0 (rooms .map) ≡ within h t
   unfolding mapWords
   map-tells = go (within h t) refl
     where
@@ -71,7 +71,7 @@ module _ (h t : ℕ) {rooms : Rooms} (e : rooms ≡ roomsOf h t) where
     pub map-needs : rooms .map ≡ mapWords h
     map-needs = rw (e, rooms-in h t allowed)
 
-    pub stack-needs : rooms .stack ≡ stackWords h t
+    stack-needs : rooms .stack ≡ stackWords h t
     stack-needs = rw (e, rooms-in h t allowed)
 
     pub list-needs : rooms .list ≡ listWords h t
@@ -84,7 +84,11 @@ suits-limits state heap e =
     let x = and-eq-true-iff _ _ .0 e in
     (limits (state .words) (state .keep) (x .0), eqb-true (length heap) (state .words) (x .1))
 
--- What is known of a state that suits its heap, and of the figures that a call has worked out.
+-- The same test as the code makes it, with the room figures that it has worked out.
+abbrev pub suitsBy : Rooms → State → List ℕ → Bool
+suitsBy rooms state heap = ltb 0 (rooms .map) && eqb (length heap) (state .words)
+
+-- What is known of a state that suits its heap, and of these figures.
 pub record Suited (state : State) (heap : List ℕ) (rooms : Rooms) : Type 0 where
   pub limits : within (state .words) (state .keep) ≡ true
   pub same : length heap ≡ state .words
@@ -93,13 +97,13 @@ pub record Suited (state : State) (heap : List ℕ) (rooms : Rooms) : Type 0 whe
   pub list-room : rooms .list ≡ listWords (state .words) (state .keep)
 
 module _ (state : State) (heap : List ℕ) {rooms : Rooms} (e : rooms ≡ roomsOf (state .words) (state .keep)) where
-  -- The map figure and the heap's length tell whether it suits.
-  pub suits-tells : ltb 0 (rooms .map) && eqb (length heap) (state .words) ≡ suits state heap
+  -- The code's test is that of the definition.
+  pub suits-tells : suitsBy rooms state heap ≡ suits state heap
   unfolding suits
   suits-tells = rw (map-tells (state .words) (state .keep) e)
 
-  -- Where they do, this is known.
-  pub suited : ltb 0 (rooms .map) && eqb (length heap) (state .words) ≡ true → Suited state heap rooms
+  -- What is known where it holds.
+  pub suited : suitsBy rooms state heap ≡ true → Suited state heap rooms
   suited ok =
       let h : ℕ = state .words in
       let t : ℕ = state .keep in
@@ -107,11 +111,6 @@ module _ (state : State) (heap : List ℕ) {rooms : Rooms} (e : rooms ≡ roomsO
       let more : 0 < rooms .map = ltb-true 0 (rooms .map) (x .0) in
       let some : rooms .map ≢ 0 = λ none. omega arith in
       record { limits = allowed h t e some; same = eqb-true (length heap) h (x .1); map-room = map-needs h t e some; stack-room = stack-needs h t e some; list-room = list-needs h t e some }
-
--- What is known then is enough.
-pub is-suited : {state : State} {heap : List ℕ} {rooms : Rooms} → Suited state heap rooms → suits state heap ≡ true
-unfolding suits
-is-suited {state} {heap} x = rw (x .limits, eq-eqb (length heap) (state .words) (x .same))
 
 -- A map of the needed length has a word for each bit of the heap.
 pub bit-inside : (h a : ℕ) → a < h → a / 32 < mapWords h

@@ -7,11 +7,11 @@ use mathlib.Core.List.{List, _++_}
 use native.Mathlib.Omega.{arith}
 use lib.ListN.{length, take, drop}
 use lib.Seq.{length-take-le}
-use lib.Dec.{leb, ltb, eqb}
+use lib.Dec.{leb, lit<}
 use borrow.Author.Tests.{leb-true, ltb-true, ne-eqb}
 use Rattle.words.specs.Map.{setBit}
 use Rattle.layout.specs.Limits.{mapWords, roomsOf}
-use Rattle.layout.specs.LimitsLaws.{Limits, Suited, suits-tells, suited, is-suited, suits-limits, bit-inside}
+use Rattle.layout.specs.LimitsLaws.{Limits, suitsBy, Suited, suits-tells, suited, suits-limits, bit-inside}
 use Rattle.layout.specs.RefusalLaws.{no-refusal}
 use Rattle.layout.specs.declared.Interval.{Interval}
 use Rattle.layout.specs.declared.Rooms.{Rooms}
@@ -30,27 +30,23 @@ use Rattle.store.specs.declared.allots.Allotted.{Allotted}
 
 -- The ways out of the whole call, where the room figures are worked out.
 module _ (state : State) (heap map list : List ℕ) (s p : ℕ) {rooms : Rooms} (e : rooms ≡ roomsOf (state .words) (state .keep)) where
-  -- The first test as the code makes it.
-  abbrev Allowed : Bool → Type 0
-  Allowed b = ltb 0 (rooms .map) && eqb (length heap) (state .words) ≡ b
-
-  -- The second.
+  -- The second test as the code makes it.
   abbrev Long : Bool → Type 0
   Long b = leb (rooms .map) (length map) && leb (rooms .list) (length list) ≡ b
 
   -- Where the state does not suit the heap it refuses with 1.
-  pub allot-limits : Allowed false → allotment (allotRefused 1 state) heap map list ≡ allots state heap map list s p
+  pub allot-limits : suitsBy rooms state heap ≡ false → allotment (allotRefused 1 state) heap map list ≡ allots state heap map list s p
   unfolding allots
   allot-limits out = rw (← suits-tells state heap e, out)
 
-  module _ (test : Allowed true) where
+  module _ (test : suitsBy rooms state heap ≡ true) where
     ok : Suited state heap rooms
     ok = suited state heap e test
 
     -- With a short buffer it refuses with 2.
     pub allot-short : Long false → allotment (allotRefused 2 state) heap map list ≡ allots state heap map list s p
     unfolding allots
-    allot-short short = rw (is-suited ok, ← ok .map-room, ← ok .list-room, short)
+    allot-short short = rw (← suits-tells state heap e, test, ← ok .map-room, ← ok .list-room, short)
 
     -- Else the needed parts are there, and what is left in them is left in front of the rest.
     module _ (long : Long true) where
@@ -61,7 +57,7 @@ module _ (state : State) (heap map list : List ℕ) (s p : ℕ) {rooms : Rooms} 
 
       pub parts : Parts state heap (take (rooms .map) map) (take (rooms .list) list)
       parts = record {
-        suit = is-suited ok;
+        suit = sym (suits-tells state heap e) ∙ test;
         map-size = length-take-le (rooms .map) map (fits .0) ∙ ok .map-room;
         list-size = length-take-le (rooms .list) list (fits .1) ∙ ok .list-room;
       }
@@ -69,7 +65,7 @@ module _ (state : State) (heap map list : List ℕ) (s p : ℕ) {rooms : Rooms} 
       pub allot-parts : {r : Allotted} {heap′ map′ list′ : List ℕ} → allotment r heap′ map′ list′ ≡ allotsIn state heap (take (rooms .map) map) (take (rooms .list) list) s p
           → allotment r heap′ (map′ ++ drop (rooms .map) map) (list′ ++ drop (rooms .list) list) ≡ allots state heap map list s p
       unfolding allots
-      allot-parts q = rw (is-suited ok, ← ok .map-room, ← ok .list-room, long, ← q) refl
+      allot-parts q = rw (← suits-tells state heap e, test, ← ok .map-room, ← ok .list-room, long, ← q) refl
 
 -- The number by the list and by what is asked for, where the list was tested.
 module _ (h t count : ℕ) (list : List ℕ) (s p : ℕ) {valid : Bool} (v : valid ≡ validList h t count list) where
@@ -114,8 +110,8 @@ module _ {state : State} {heap map list : List ℕ} (z : Parts state heap map li
     ready =
         let h : ℕ = state .words in
         let t : ℕ = state .keep in
-        let v = no-refusal (validList h t (state .count) list) 2 _ (sym e ∙ none) in
-        let q = no-refusal (askable t s p) 6 0 (v .1) in
+        let v = no-refusal (validList h t (state .count) list) 3 _ (lit< tt) (sym e ∙ none) in
+        let q = no-refusal (askable t s p) 7 0 (lit< tt) (v .1) in
         let own = suits-limits state heap (z .suit) in
         let o = valid-ordered h t (state .count) list (v .0) in
         let able = and-eq-true-iff (leb t s && leb s 65535) _ .0 (q .0) in

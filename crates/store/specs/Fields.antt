@@ -26,16 +26,16 @@ fieldCode state heap map a k =
     (unless (leb (mapWords (state .words)) (length map)) 2
     (objectCode heap (state .keep) map a k))
 
--- Where field k of the object at a stands.
-abbrev pub fieldAt : ℕ → ℕ → ℕ
-fieldAt a k = a + 1 + k
+-- The word that field k of the object at a stands in.
+abbrev pub wordOf : ℕ → ℕ → ℕ
+wordOf a k = a + 1 + k
 
 -- A read of field k of the object at a.
 unfoldable pub reads : State → List ℕ → List ℕ → ℕ → ℕ → Reading
 reads state heap map a k =
     let code : ℕ = fieldCode state heap map a k in
     unless (eqb code 0) (record { code = code; value = 0 })
-    (record { code = 0; value = getD heap (fieldAt a k) 0 })
+    (record { code = 0; value = getD heap (wordOf a k) 0 })
 
 -- Field k of the object at a may be given v: a data field any value, a reference field 0 or a start on the map.
 unfoldable pub takes : List ℕ → List ℕ → ℕ → ℕ → ℕ → Bool
@@ -56,4 +56,4 @@ writes state heap map a k v =
     let code : ℕ = fieldCode state heap map a k in
     unless (eqb code 0) (written code heap)
     (unless (takes heap map a k v) (written 11 heap)
-    (written 0 (set heap (fieldAt a k) v)))
+    (written 0 (set heap (wordOf a k) v)))

@@ -3,9 +3,11 @@ use Prim.Native.Nat.{ℕ, suc, _+_, _-_, _≤_, _<_}
 use mathlib.Core.Path.{_≡_, sym, ap, _∙_}
 use mathlib.Core.List.{List, [], _∷_, _++_, append-assoc}
 use native.Mathlib.Omega.{arith}
-use lib.ListN.{length, take, drop, set, replicate, length-append, length-drop, length-replicate, length-set}
-use lib.Seq.{length-take-le, take-suc-set, drop-set-lt, drop-drop, append-snoc}
-use Rattle.words.specs.Header.{headerWord}
+use lib.ListN.{length, getD, take, drop, set, replicate, length-append, length-drop, length-replicate, length-set, replicate-append-replicate}
+use lib.Seq.{length-take-le, take-suc-set, drop-set-lt, drop-drop, drop-append-add, append-snoc, getD-at, take-at}
+use Rattle.words.specs.Header.{sizeAt, refsAt, headerAt, headerWord, fieldsOf}
+use Rattle.words.specs.HeaderLaws.{word-parts}
+use Rattle.words.specs.declared.header.Header.{Header}
 use Rattle.store.specs.Allot.{withObject}
 
 module _ (heap : List ℕ) (a s p : ℕ) (some : p < s) (fits : a + s ≤ length heap) where
@@ -40,3 +42,25 @@ module _ (heap : List ℕ) (a s p : ℕ) (some : p < s) (fits : a + s ≤ length
         length-replicate {A = ℕ} (s - 1) 0,
         length-drop (a + s) heap,
       )
+
+  -- What stands from a on: the header, zeros, and what was behind.
+  from-header : withObject heap a s p ≡ take a heap ++ (headerWord s p ∷ (replicate (s - 1) 0 ++ drop (a + s) heap))
+  unfolding withObject
+  from-header = append-assoc (take a heap) (headerWord s p ∷ replicate (s - 1) 0) (drop (a + s) heap)
+
+  -- The object has the size and the references that were asked for.
+  pub new-header : s < 65536 → headerAt (withObject heap a s p) a ≡ record { size = s; refs = p }
+  unfolding sizeAt refsAt
+  new-header small =
+      let word : getD (withObject heap a s p) a 0 ≡ headerWord s p = rw from-header (getD-at (take a heap) (headerWord s p) (replicate (s - 1) 0 ++ drop (a + s) heap) 0 a (length-take-le a heap (omega arith))) in
+      rw (word, word-parts s p small .0, word-parts s p small .1)
+
+  -- Each of its references is 0.
+  pub new-fields : s < 65536 → fieldsOf (withObject heap a s p) a ≡ replicate p 0
+  unfolding fieldsOf
+  new-fields small =
+      let refs : refsAt (withObject heap a s p) a ≡ p = ap (λ (h : Header). h .refs) (new-header small) in
+      let one : length (take a heap) + 1 ≡ suc a = omega (arith, length-take-le a heap (omega arith)) in
+      let behind : drop (suc a) (withObject heap a s p) ≡ replicate (s - 1) 0 ++ drop (a + s) heap = rw (← one, from-header) (drop-append-add (take a heap) (headerWord s p ∷ (replicate (s - 1) 0 ++ drop (a + s) heap)) 1) in
+      let split : p + (s - 1 - p) ≡ s - 1 = omega arith in
+      rw (refs, behind, ← split, ← replicate-append-replicate {A = ℕ} p (s - 1 - p) 0, append-assoc (replicate p 0) (replicate (s - 1 - p) 0) (drop (a + s) heap)) (take-at (replicate p 0) (replicate (s - 1 - p) 0 ++ drop (a + s) heap) p (length-replicate p 0))

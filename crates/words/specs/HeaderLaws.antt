@@ -1,5 +1,5 @@
 -- Laws of headers.
-use Prim.Native.Nat.{ℕ, suc, _+_, _-_, _≤_, _<_}
+use Prim.Native.Nat.{ℕ, suc, _+_, _/_, _%_, _≤_, _<_}
 use mathlib.Core.Path.{_≡_}
 use mathlib.Core.Bool.{true, and-eq-true-iff}
 use mathlib.Core.List.{List}
@@ -9,12 +9,17 @@ use lib.ListN.{length, getD, drop, length-drop}
 use lib.Seq.{length-take-le}
 use lib.Dec.{lit<}
 use borrow.Author.Tests.{leb-true, ltb-true, le-leb, lt-ltb}
-use Rattle.words.specs.Header.{sizeAt, refsAt, wellFormed, fieldsOf}
+use Rattle.words.specs.Header.{sizeAt, refsAt, headerWord, wellFormed, fieldsOf}
 
 -- A size has 16 bits.
 pub size-small : (heap : List ℕ) (a : ℕ) → sizeAt heap a < 65536
 unfolding sizeAt
 size-small heap a = mod-lt (getD heap a 0) (lit< tt)
+
+-- The word of a header has its two parts.
+pub word-parts : (s p : ℕ) → s < 65536 → (headerWord s p % 65536 ≡ s) × (headerWord s p / 65536 ≡ p)
+unfolding headerWord
+word-parts s p small = (omega arith, omega arith)
 
 -- What a well-formed header says.
 pub record Formed (heap : List ℕ) (t a : ℕ) : Type 0 where

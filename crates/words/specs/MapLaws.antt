@@ -1,4 +1,4 @@
--- Laws of the map: every bit after one is set, the bits of zeros, and words that stay 32-bit.
+-- Laws of the map: every bit after one is set, and the bits of zeros.
 use Prim.Native.Nat.{ℕ, suc, zero, _+_, _-_, _*_, _/_, _%_, _^_, _<_, max}
 use mathlib.Core.Path.{_≡_, refl, sym, _∙_, ap}
 use mathlib.Core.Logic.{_≢_}
@@ -10,14 +10,10 @@ use native.Mathlib.Decide.{decLt, ℕ-discrete}
 use lib.ListN.{length, getD, set, replicate, length-set}
 use lib.Seq.{getD-set-same, getD-set-other, set-getD, set-out}
 use lib.Pow.{pow-add, pow-lt, shl-exact, shl-shr}
-use lib.Bits.{bitOr, bitAnd, or-add-and, or-lt, or-shr, or-step, and-high}
+use lib.Bits.{bitOr, bitAnd, or-add-and, or-shr, or-step, and-high}
 use lib.Dec.{lit<}
 use borrow.Author.Tests.{eqb-true, eqb-false, eq-eqb, ltb-true, lt-ltb}
 use Rattle.words.specs.Map.{bitAt, setBit, isStart}
-
--- Every word is a 32-bit number.
-abbrev pub Words32 : List ℕ → Type 0
-Words32 l = (i : ℕ) → getD l i 0 < 2 ^ 32
 
 -- Every word of zeros is 0.
 zeros-at : (n i : ℕ) → _≡_ {A = ℕ} (getD (replicate n 0) i 0) 0
@@ -111,26 +107,6 @@ bit-zeros n a = rw (zeros-at n (a / 32), zero-div)
 -- Setting a bit keeps the map's length.
 pub length-setBit : (map : List ℕ) (a : ℕ) → length (setBit map a) ≡ length map
 length-setBit map a = ap length (setBit-or map a) ∙ simp length-set
-
--- Zeros are 32-bit words.
-pub words-zeros : (n : ℕ) → Words32 (replicate n 0)
-words-zeros n i = rw (zeros-at n i) (lit< tt)
-
--- A store of a 32-bit word leaves 32-bit words.
-pub words-set : (l : List ℕ) (i v : ℕ) → Words32 l → v < 2 ^ 32 → Words32 (set l i v)
-words-set l i v ok fits j = go (ℕ-discrete j i) (decLt i (length l))
-  where
-    go : Dec (j ≡ i) → Dec (i < length l) → getD (set l i v) j 0 < 2 ^ 32
-    go (no other) d = rw (getD-set-other l i j v 0 other) (ok j)
-    go (yes same) (no out) = rw (set-out l i v (omega arith)) (ok j)
-    go (yes same) (yes inside) = rw (same, getD-set-same l i v 0 inside) fits
-
--- Setting a bit leaves 32-bit words.
-pub words-setBit : (map : List ℕ) (a : ℕ) → Words32 map → Words32 (setBit map a)
-words-setBit map a ok =
-    rw (setBit-or map a)
-    (words-set map (a / 32) (bitOr (getD map (a / 32) 0) (2 ^ (a % 32))) ok
-    (or-lt 32 (getD map (a / 32) 0) (2 ^ (a % 32)) (ok (a / 32)) (pow-lt (mod-lt a {m = 32} (lit< tt)))))
 
 -- Joining a shifted 1 to the word sets the bit.
 pub shift-sets : (map : List ℕ) (a : ℕ) → set map (a / 32) (bitOr (getD map (a / 32) 0) (1 * 2 ^ (a % 32) % 2 ^ 32)) ≡ setBit map a
