@@ -1,115 +1,24 @@
 #!/usr/bin/env python3
 """Writes the lines of the collections and the answers expected of them: crates/collections/stdin and stdout.
 
-The answers are worked out here from the rules alone, and not the way the proved code works. Words of marked objects stand
+The answers are worked out from the rules alone, and not the way the proved code works. Words of marked objects stand
 in a bitmap of the whole heap, which tells an overlap; the free list is a sweep over it at the end; and the peak is found
 afterwards, from the objects in the order of their marking, by a sweep after each or, in a large heap, by the borders of
 the gaps between them. Images are laid by the same rules as the program's.
 With --check nothing is written: the two files must be there as they would be written.
 """
-import bisect
 import random
 
-from rules import flat, lines, rooms, say, settle, shown, sweep
+from rules import collects, flat, header, say, settle, shown, spare
 
-MAX_ROOTS, SMALL, ROOM = 65536, 400, 39
+ROOM = 39
 codes = []
-
-
-def header(s, p=0):
-    return 65536 * p + s
-
-
-class Refused(Exception):
-    """A refusal: its number and the reference met."""
-
-
-def mark(heap, t, roots):
-    """The objects (start, size) in the order of their marking, a bitmap of their words, and the references read."""
-    h, marked, taken, stack, read = len(heap), {}, bytearray(len(heap)), [], 0
-
-    def meet(r):
-        if r == 0 or r in marked:
-            return
-        if r >= h:
-            raise Refused(4, r)
-        s, p = heap[r] % 65536, heap[r] // 65536
-        if s < t or p > s - 1 or r + s > h:
-            raise Refused(5, r)
-        if any(taken[r : r + s]):
-            raise Refused(6, r)
-        taken[r : r + s] = b"\1" * s
-        marked[r] = s
-        stack.append(heap[r + 1 : r + 1 + p])
-
-    for root in roots:
-        read += 1
-        meet(root)
-        while stack:
-            for r in stack.pop():
-                read += 1
-                meet(r)
-    return list(marked.items()), taken, read
-
-
-def peak_swept(h, t, marked):
-    free = [True] * h
-    peak = len(sweep(free, t))
-    for a, s in marked:
-        free[a : a + s] = [False] * s
-        peak = max(peak, len(sweep(free, t)))
-    return peak
-
-
-def peak_by_borders(h, t, marked):
-    starts, ends, count = [0, h], [1, h], int(h - 1 >= t)
-    peak = count
-    for a, s in marked:
-        i = bisect.bisect(starts, a)
-        low, high = ends[i - 1], starts[i]
-        count += (a - low >= t) + (high - a - s >= t) - (high - low >= t)
-        starts.insert(i, a)
-        ends.insert(i, a + s)
-        peak = max(peak, count)
-    return peak
-
-
-def map_of(h, marked):
-    words = [0] * rooms(h, 1)[0]
-    for a, _ in marked:
-        words[a // 32] += 2 ** (a % 32)
-    return words
-
-
-def answers(state, heap, roots, lent):
-    """The numbers answered (code to peak, then the state), and what is written at the front of map, stack and list."""
-    h, t, _ = state
-    need = rooms(h, t)
-    if need[0] == 0 or len(heap) != h or len(roots) > MAX_ROOTS:
-        return [1, 0, 0, 0, 0, 0, *state], ([], [], [])
-    if any(have < want for have, want in zip(lent, need)):
-        return [2, 0, 0, 0, 0, 0, *state], ([], [], [])
-    clear = [[0] * want for want in need]
-    try:
-        marked, taken, read = mark(heap, t, roots)
-    except Refused as refused:
-        return [*refused.args, 0, 0, 0, 0, h, t, 0], clear
-    peak = peak_by_borders(h, t, marked)
-    assert h > SMALL or peak == peak_swept(h, t, marked)
-    runs = sweep([not word for word in taken], t)
-    left = flat(runs) + [0] * (need[2] - 2 * len(runs))
-    return [0, 0, len(marked), sum(s for _, s in marked), read, peak, h, t, len(runs)], (map_of(h, marked), clear[1], left)
-
-
-def spare(h, t):
-    """How much is lent: mostly more than needed, and now and then just that."""
-    return [need + more for need, more in zip(rooms(h, t), [(1, 2, 3), (2, 1, 1), (0, 0, 0), (1, 1, 2)][len(lines) % 4])]
 
 
 def collect(name, h, t, heap, roots, *given, count=0, lent=None, want=(), bits=None, free=None):
     """A line; `want` is how the answer begins, `bits` the map and `free` the list where the rules give them as an example."""
     state, lent = (h, t, count), lent or spare(h, t)
-    numbers, written = answers(state, heap, roots, lent)
+    numbers, written = collects(state, heap, roots, lent)
     assert numbers[: len(want)] == list(want), (name, given, numbers)
     assert bits is None or written[0] == bits, (name, given, written)
     assert free is None or written[2][: 2 * numbers[8]] == flat(free), (name, given, written)

@@ -7,52 +7,7 @@ With --check nothing is written: the two files must be there as they would be wr
 """
 import random
 
-from rules import flat, lines, rooms, say, settle, shown, sweep
-
-
-def set_up(h, t, m, n):
-    need_map, _, need_list = rooms(h, t)
-    if need_map == 0:
-        return 1, 0, 0, 0, 0, 0
-    if m < need_map or n < need_list:
-        return 2, 0, 0, 0, 0, 0
-    return 0, h, t, int(h - 1 >= t), need_map, need_list
-
-
-def is_valid(h, t, count, records):
-    if count > (h - 1) // t:
-        return False
-    end = 0
-    for start, size in records[:count]:
-        if size < t or start == 0 or start + size > h or start <= end:
-            return False
-        end = start + size
-    return True
-
-
-def figures(records):
-    sizes = [size for _, size in records]
-    listed, largest = sum(sizes), max(sizes, default=0)
-    return listed, largest, 1000 - 1000 * largest // listed if listed else 0
-
-
-def bitmap(h, records):
-    free = [False] * h
-    for start, size in records:
-        for w in range(start, start + size):
-            free[w] = True
-    return free
-
-
-def after(h, t, records, words, a, s):
-    """The new count and all words of the list's part, once the s words from a on are no longer free."""
-    free = bitmap(h, records)
-    for w in range(a, a + s):
-        free[w] = False
-    left = sweep(free, t)
-    new = flat(left)
-    new += [0] * (2 * len(records) - len(new))
-    return len(left), new + words[len(new):]
+from rules import figures, flat, is_valid, lines, rooms, say, set_up, settle, shown, sweep, taken_off
 
 
 def report(place, count, words):
@@ -76,7 +31,7 @@ def try_off(h, t, a, s, records):
     held = [j for j, (start, size) in enumerate(records) if start <= a and a + s <= start + size]
     gave = [1, count]
     if held:
-        gave = report(held[0], *after(h, t, records, part(h, t, count, records), a, s))
+        gave = report(held[0], *taken_off(h, t, records, part(h, t, count, records), a, s))
     say("off", h, t, a, s, count, *flat(records), gave=gave)
 
 
@@ -86,7 +41,7 @@ def try_front(h, t, s, records):
     fit = [j for j, (_, size) in enumerate(records) if size >= s]
     gave = [1, count]
     if fit:
-        gave = report(fit[0], *after(h, t, records, part(h, t, count, records), records[fit[0]][0], s))
+        gave = report(fit[0], *taken_off(h, t, records, part(h, t, count, records), records[fit[0]][0], s))
     say("front", h, t, 0, s, count, *flat(records), gave=gave)
 
 
@@ -98,7 +53,7 @@ def try_comb(h, a, s):
     held = [j for j, (start, size) in enumerate(records) if start <= a and a + s <= start + size]
     gave = [1, len(records)]
     if held:
-        gave = report(held[0], *after(h, 1, records, words, a, s))
+        gave = report(held[0], *taken_off(h, 1, records, words, a, s))
     say("comb", h, 1, a, s, gave=gave)
 
 

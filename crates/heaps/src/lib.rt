@@ -14,17 +14,17 @@ pub fn junk() -> [u32; 131073]
 }
 
 // The low 32 bits of a number.
-fn cut(n: usize) -> u32 {
+pub fn cut(n: usize) -> u32 {
     (n % 4294967296) as u32
 }
 
-// Writes numbers to the roots.
-fn write_roots(from: &[usize], roots: &mut [u32]) {
+// Writes numbers to the front of a buffer, as far as it goes.
+pub fn write(from: &[usize], to: &mut [u32]) {
     for i in 0..from.len() {
-        if roots.len() <= i {
+        if to.len() <= i {
             return;
         }
-        roots[i] = cut(from[i]);
+        to[i] = cut(from[i]);
     }
 }
 
@@ -46,7 +46,7 @@ fn given(place: [usize; 48], heap: &mut [u32], roots: &mut [u32]) {
     if from.len() < r {
         return;
     }
-    write_roots(&from[..r], roots);
+    write(&from[..r], roots);
     write_words(&from[r..], heap);
 }
 

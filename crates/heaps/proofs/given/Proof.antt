@@ -17,11 +17,11 @@ part-from-end c = search needs
 returns : tie.Need-returns
 returns c = search needs
 
-slice-aggregate-write-roots : tie.Need-slice-aggregate-write-roots
-slice-aggregate-write-roots c = sym (length-take-le _ _ (c .before .if1 .left))
+slice-aggregate-write : tie.Need-slice-aggregate-write
+slice-aggregate-write c = sym (length-take-le _ _ (c .before .if1 .left))
 
-write-roots-requires : tie.Need-write-roots-requires
-write-roots-requires c κs = search needs
+write-requires : tie.Need-write-requires
+write-requires c κs = search needs
 
 mul-write-words : tie.Need-mul-write-words
 mul-write-words c = search needs
@@ -55,8 +55,8 @@ given-spec =
     part-from-start
     part-from-end
     returns
-    slice-aggregate-write-roots
-    write-roots-requires
+    slice-aggregate-write
+    write-requires
     mul-write-words
     sub-write-words
     part-write-words-start

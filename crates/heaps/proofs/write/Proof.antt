@@ -1,16 +1,16 @@
--- `write_roots` is safe and ends.
+-- `write` is safe and ends.
 use Prim.Native.Nat.{_-_, _≤_}
 use mathlib.Core.Path.{_≡_}
 use lib.ListN.{length}
 use borrow.Author.Needs.{needs}
-use Rattle.heaps.proofs.write_roots.Statement.{statement}
-use Rattle.heaps.proofs.write_roots.Tie as tie
+use Rattle.heaps.proofs.write.Statement.{statement}
+use Rattle.heaps.proofs.write.Tie as tie
 
 abbrev Inv-loop : tie.InvT-loop
-Inv-loop from roots₀ i₀ i-end roots i = (i ≤ i-end) × (length roots ≡ length roots₀)
+Inv-loop from to₀ i₀ i-end to i = (i ≤ i-end) × (length to ≡ length to₀)
 
 abbrev μ-loop : tie.MeasureT-loop
-μ-loop from roots₀ i₀ i-end roots i = i-end - i
+μ-loop from to₀ i₀ i-end to i = i-end - i
 
 loop-holds : tie.Need-loop-holds Inv-loop μ-loop
 loop-holds c = search needs
@@ -30,11 +30,11 @@ shared-slice-read-cut c = search needs
 cut-requires : tie.Need-cut-requires Inv-loop μ-loop
 cut-requires c κs = search needs
 
-mul-roots : tie.Need-mul-roots Inv-loop μ-loop
-mul-roots c = search needs
+mul-to : tie.Need-mul-to Inv-loop μ-loop
+mul-to c = search needs
 
-slice-write-roots : tie.Need-slice-write-roots Inv-loop μ-loop
-slice-write-roots c = search needs
+slice-write-to : tie.Need-slice-write-to Inv-loop μ-loop
+slice-write-to c = search needs
 
 add-i : tie.Need-add-i Inv-loop μ-loop
 add-i c = search needs
@@ -51,8 +51,8 @@ same-length-2 c = search needs
 returns-2 : tie.Need-returns-2 Inv-loop μ-loop
 returns-2 c = search needs
 
-pub write-roots-spec : {M : Type 1} → statement M
-write-roots-spec =
+pub write-spec : {M : Type 1} → statement M
+write-spec =
     tie.close
     (tie.spec
     Inv-loop
@@ -63,8 +63,8 @@ write-roots-spec =
     mul-cut
     shared-slice-read-cut
     cut-requires
-    mul-roots
-    slice-write-roots
+    mul-to
+    slice-write-to
     add-i
     loop-less
     loop-again
