@@ -38,7 +38,7 @@ allotRefused code state = record { code = code; address = 0; state = state }
 abbrev pub askable : ℕ → ℕ → ℕ → Bool
 askable t s p = leb t s && leb s 65535 && ltb p s
 
--- The number with which an allot is refused before an interval is chosen, or 0: the list is bad, or no such object may be asked for.
+-- The number with which an allot is refused for its list, or for what it asks, or 0.
 unfoldable pub askedCode : ℕ → ℕ → ℕ → List ℕ → ℕ → ℕ → ℕ
 askedCode h t count list s p =
     unless (validList h t count list) 3

@@ -84,7 +84,7 @@ fn allot_in(
     }
 }
 
-// The number with which an allot is refused before an interval is chosen, or 0.
+// The number with which an allot is refused for its list, or for what it asks, or 0.
 fn asked_code(list: &[u32], count: usize, words: usize, keep: usize, s: usize, p: usize) -> u32
     requires { ⌜ length (now list) ≡ listWords words keep ⌝ }
     ensures { λ r. ⌜ r ≡ askedCode words keep count (now (list .entry)) s p ⌝ }
