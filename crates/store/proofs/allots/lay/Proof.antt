@@ -1,6 +1,8 @@
 -- `lay`: the header stored and the words behind it cleared make the new object.
-use mathlib.Core.Path.{ap, _∙_}
-use lib.ListN.{length}
+use Prim.Native.Nat.{ℕ, _+_, _-_}
+use mathlib.Core.Path.{_≡_, ap, _∙_}
+use mathlib.Core.List.{List}
+use lib.ListN.{length, take, drop, set, replicate}
 use borrow.Author.Needs.{needs}
 use Rattle.store.specs.ObjectLaws.{laid, length-laid}
 use Rattle.store.proofs.allots.lay.Statement.{statement}
@@ -39,7 +41,10 @@ clear-requires c κs = search needs
 returns : tie.Need-returns
 returns c =
     let d = c .before .before .before .before .before .before in
-    laid (d .args .heap .now) (d .args .a) (d .args .s) (d .args .p) (d .pre .0) (d .pre .2) (c .before .before .before .before .word .ensures) (c .before .before .clear .ensures)
+    let t = d .args in
+    let behind : List ℕ = take (t .a + t .s - (t .a + 1)) (drop (t .a + 1) (set (t .heap .now) (t .a) (c .before .before .before .before .word .result))) in
+    let zeros : c .before .before .clear .last .0 ≡ replicate (length behind) 0 = c .before .before .clear .ensures in
+    laid (t .heap .now) (t .a) (t .s) (t .p) (d .pre .0) (d .pre .2) (c .before .before .before .before .word .ensures) zeros
 
 same-length : tie.Need-same-length
 same-length c = let d = c .before .before .before .before .before .before in ap length (returns c) ∙ length-laid (d .args .heap .now) (d .args .a) (d .args .s) (d .args .p) (d .pre .0) (d .pre .2)
