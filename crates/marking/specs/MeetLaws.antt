@@ -21,8 +21,15 @@ use Rattle.runs.specs.FreeListLaws.{list-holds}
 use Rattle.marking.specs.Marking.{Marking, Outcome, overlaps, meet}
 use Rattle.marking.specs.Meets.{New, Meets, empty, outside, again, ill-formed, overlapping, apart}
 
+-- An object that overlaps one on the map has a covered word.
+pub overlaps-some : (heap map : List ℕ) (r : ℕ) → overlaps heap map r ≡ true → (w : ℕ) × (r ≤ w) × (w < r + sizeAt heap r) × (covered heap map w ≡ true)
+unfolding overlaps
+overlaps-some heap map r e =
+    let x = below-some (sizeAt heap r) (λ i. covered heap map (r + i)) e in
+    (r + x .0, omega arith, omega (arith, x .1), x .2)
+
 -- An object overlaps none on the map if and only if all its words are free.
-overlaps-none : (heap map : List ℕ) (r : ℕ) → (overlaps heap map r ≡ false) ↔ Free (covered heap map) r (r + sizeAt heap r)
+pub overlaps-none : (heap map : List ℕ) (r : ℕ) → (overlaps heap map r ≡ false) ↔ Free (covered heap map) r (r + sizeAt heap r)
 unfolding overlaps
 overlaps-none heap map r = (free, none)
   where
@@ -35,9 +42,7 @@ overlaps-none heap map r = (free, none)
         clash (some-below s (λ i. covered heap map (r + i)) (w - r) (omega arith) (rw x c)) e
 
     none : Free (covered heap map) r (r + s) → someBelow s (λ i. covered heap map (r + i)) ≡ false
-    none g = eq-false-of-not-eq-true λ e.
-        let x = below-some s (λ i. covered heap map (r + i)) e in
-        clash (x .2) (g (r + x .0) (omega arith) (omega (arith, x .1)))
+    none g = eq-false-of-not-eq-true λ e. let x = overlaps-some heap map r e in clash (x .3) (g (x .0) (x .1) (x .2))
 
 -- The search for its words in the list is the overlap test.
 pub overlaps-holds : (heap : List ℕ) (t : ℕ) (map : List ℕ) (r : ℕ) → 1 ≤ t → r ≢ 0 → Formed heap t r → (overlaps heap map r ≡ false) ↔ Holds (freeList t heap map) r (sizeAt heap r)

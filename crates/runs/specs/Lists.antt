@@ -1,12 +1,10 @@
 -- What is said of a list of intervals.
 use Prim.Native.Nat.{ℕ, suc, _+_, _-_, _≤_, _<_}
 use mathlib.Core.Path.{_≡_}
-use mathlib.Core.Bool.{Bool, true}
 use mathlib.Core.List.{List, [], _∷_, _++_}
 use lib.ListN.{length, getD, take, drop}
 use Rattle.layout.specs.declared.Interval.{Interval}
 use Rattle.runs.specs.Runs.{kept}
-use Rattle.runs.specs.Covers.{Free}
 
 -- What stands at a place past a list's end.
 abbrev pub nowhere : Interval
@@ -34,14 +32,14 @@ pub record In (l : List Interval) (a s j : ℕ) : Type 0 where
 abbrev pub Holds : List Interval → ℕ → ℕ → Type 0
 Holds l a s = (j : ℕ) × In l a s j
 
--- The interval i is a longest run of uncovered words from lo on, up to e, and has k words or more.
-pub record Longest (k : ℕ) (cov : ℕ → Bool) (lo e : ℕ) (i : Interval) : Type 0 where
+-- The interval i is a longest run of words outside Taken from lo on, up to e, and has k words or more.
+pub record Longest (k : ℕ) (Taken : ℕ → Type 0) (lo e : ℕ) (i : Interval) : Type 0 where
   pub low : lo ≤ i .start
   pub high : end i ≤ e
   pub enough : k ≤ i .size
-  pub free : Free cov (i .start) (end i)
-  pub before : lo < i .start → cov (i .start - 1) ≡ true
-  pub after : end i < e → cov (end i) ≡ true
+  pub free : (w : ℕ) → i .start ≤ w → w < end i → ¬ Taken w
+  pub before : lo < i .start → Taken (i .start - 1)
+  pub after : end i < e → Taken (end i)
 
 -- Each interval has k words or more and lies from lo on, up to e, and g words or more lie between one and the next.
 pub data Ordered (k g e : ℕ) : ℕ → List Interval → Type 0 where

@@ -7,8 +7,8 @@ use mathlib.Core.List.{List}
 use native.Mathlib.Omega.{arith}
 use native.Mathlib.Nat.{mod-lt, one-mul, zero-div, div-eq-of-lt, pow-succ'}
 use native.Mathlib.Decide.{decLt, ℕ-discrete}
-use lib.ListN.{length, getD, set, replicate, length-set}
-use lib.Seq.{getD-set-same, getD-set-other, set-getD, set-out}
+use lib.ListN.{length, getD, set, take, replicate, length-set}
+use lib.Seq.{getD-set-same, getD-set-other, getD-take, set-getD, set-out}
 use lib.Pow.{pow-add, pow-lt, shl-exact, shl-shr}
 use lib.Bits.{bitOr, bitAnd, or-add-and, or-shr, or-step, and-high}
 use lib.Dec.{lit<}
@@ -103,6 +103,11 @@ bit-other map a b ne = rw (setBit-or map a) (go (ℕ-discrete (b / 32) (a / 32))
 pub bit-zeros : (n a : ℕ) → bitAt (replicate n 0) a ≡ false
 unfolding bitAt
 bit-zeros n a = rw (zeros-at n (a / 32), zero-div)
+
+-- A bit of the first n words of a map is that of the map.
+pub bit-take : (n : ℕ) (map : List ℕ) (a : ℕ) → a / 32 < n → bitAt (take n map) a ≡ bitAt map a
+unfolding bitAt
+bit-take n map a inside = rw (getD-take n map (a / 32) 0 inside)
 
 -- Setting a bit keeps the map's length.
 pub length-setBit : (map : List ℕ) (a : ℕ) → length (setBit map a) ≡ length map

@@ -1,0 +1,73 @@
+-- Demand 2: what a collection must answer and leave, said of what the roots reach.
+use Prim.Native.Nat.{ℕ, zero, suc, _+_, _≤_}
+use mathlib.Core.Path.{_≡_}
+use mathlib.Core.Logic.{_≢_, _↔_}
+use mathlib.Core.Bool.{Bool, true, cond}
+use mathlib.Core.List.{List}
+use lib.ListN.{length, take}
+use Rattle.words.specs.Header.{sizeAt, fieldsOf}
+use Rattle.words.specs.Map.{bitAt, isStart}
+use Rattle.layout.specs.Intervals.{shown}
+use Rattle.layout.specs.Limits.{maxRoots, suits, mapWords, stackWords, listWords}
+use Rattle.layout.specs.declared.Interval.{Interval}
+use Rattle.layout.specs.declared.State.{State}
+use Rattle.runs.specs.Runs.{runs, freeList}
+use Rattle.runs.specs.Lists.{Member, Longest, Ordered}
+use Rattle.freelist.specs.Records.{records}
+use Rattle.marking.specs.Marking.{Marking, going, run, begin}
+use Rattle.collector.specs.Collect.{Left}
+use Rattle.collector.specs.declared.Collected.{Collected}
+use Rattle.demands.specs.Reach.{Reach, Live, Sound, Fault}
+
+-- What is lent to a collection is within the limits, and no buffer is shorter than needed.
+pub record Lent (state : State) (heap roots map stack list : List ℕ) : Type 0 where
+  pub suit : suits state heap ≡ true
+  pub few : length roots ≤ maxRoots
+  pub map-room : mapWords (state .words) ≤ length map
+  pub stack-room : stackWords (state .words) (state .keep) ≤ length stack
+  pub list-room : listWords (state .words) (state .keep) ≤ length list
+
+-- Just the numbers of which P holds pass the test.
+abbrev pub Tells : (ℕ → Bool) → (ℕ → Type 0) → Type 0
+Tells test P = (a : ℕ) → (test a ≡ true) ↔ P a
+
+-- The sum of f over the numbers below n that pass the test.
+unfoldable pub total : (ℕ → Bool) → (ℕ → ℕ) → ℕ → ℕ
+total test f zero = 0
+total test f (suc n) = total test f n + cond (test n) (f n) 0
+
+-- The counts are sums over what is reached, and the roots.
+pub record Sums (heap roots : List ℕ) (reached : ℕ → Bool) (answer : Collected) : Type 0 where
+  pub objects : answer .objects ≡ total reached (λ a. 1) (length heap)
+  pub live : answer .live ≡ total reached (sizeAt heap) (length heap)
+  pub references : answer .references ≡ length roots + total reached (λ a. length (fieldsOf heap a)) (length heap)
+
+-- After n moves from the beginning the collection stands at m.
+abbrev pub After : List ℕ → ℕ → List ℕ → ℕ → Marking → Type 0
+After heap t roots n m = run n heap t (going (begin heap t roots)) ≡ going m
+
+-- How many intervals are listed at m.
+abbrev pub intervals : List ℕ → ℕ → Marking → ℕ
+intervals heap t m = length (freeList t heap (m .map))
+
+-- The peak is the greatest number of intervals listed at any moment.
+pub record Peak (heap : List ℕ) (t : ℕ) (roots : List ℕ) (peak : ℕ) : Type 0 where
+  pub seen : (n : ℕ) × (m : Marking) × After heap t roots n m × (intervals heap t m ≡ peak)
+  pub most : (n : ℕ) (m : Marking) → After heap t roots n m → intervals heap t m ≤ peak
+
+-- What a collection that succeeds answers, and what it leaves in map and list.
+pub record Finds (heap : List ℕ) (t : ℕ) (roots : List ℕ) (answer : Collected) (map list : List ℕ) : Type 0 where
+  pub starts : Tells (isStart (length heap) map) (Reach heap roots)
+  pub bits : Tells (bitAt (take (mapWords (length heap)) map)) (Reach heap roots)
+  pub longest : (i : Interval) → Member (records (answer .state .count) list) i ↔ Longest t (Live heap roots) 1 (length heap) i
+  pub ordered : Ordered t 1 (length heap) 1 (records (answer .state .count) list)
+  pub swept : (live : ℕ → Bool) → Tells live (Live heap roots) → records (answer .state .count) list ≡ runs t (length heap) live
+  pub zeros : take (listWords (length heap) t) list ≡ shown (listWords (length heap) t) (records (answer .state .count) list)
+  pub sums : (reached : ℕ → Bool) → Tells reached (Reach heap roots) → Sums heap roots reached answer
+  pub peak : Peak heap t roots (answer .peak)
+
+-- Demand 2: a collection succeeds exactly when all that is reached is sound; it has then found what it should, and a refusal names a reference that is at fault.
+pub record Demand2 (heap : List ℕ) (t : ℕ) (roots : List ℕ) (out : Left) : Type 0 where
+  pub succeeds : (out .answer .code ≡ 0) ↔ Sound heap t roots
+  pub finds : out .answer .code ≡ 0 → Finds heap t roots (out .answer) (out .map) (out .list)
+  pub refuses : out .answer .code ≢ 0 → Fault heap t roots (out .answer .code) (out .answer .place)

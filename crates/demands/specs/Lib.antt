@@ -1,0 +1,10 @@
+pub mod Reach
+pub mod Demand2
+pub mod TotalLaws
+pub mod Tracks
+pub mod MarkedLaws
+pub mod TracksLaws
+pub mod PeakLaws
+pub mod SettledLaws
+pub mod FindsLaws
+pub mod Demand2Holds

@@ -1,0 +1,136 @@
+-- The peak is the greatest number of intervals listed at any moment.
+use Prim.{Unit}
+use Prim.Native.Nat.{ℕ, zero, suc, _+_, _≤_, max}
+use mathlib.Core.Path.{_≡_, refl, sym, ap, _∙_}
+use mathlib.Core.List.{List, [], _∷_}
+use native.Mathlib.Omega.{arith}
+use native.Mathlib.Decide.{decLe}
+use lib.ListN.{length}
+use Rattle.marking.specs.Marking.{Marking, Outcome, going, done, refused, marked, leaving, move, run, begin, collection}
+use Rattle.marking.specs.Meets.{Meets, empty, outside, again, ill-formed, overlapping, apart}
+use Rattle.marking.specs.MeetLaws.{meet-meets}
+use Rattle.marking.specs.InvariantLaws.{run-done, run-refused}
+use Rattle.demands.specs.Demand2.{After, intervals, Peak}
+
+module _ (heap : List ℕ) (t : ℕ) where
+  -- What a move does to map and peak: nothing, or it splits an interval and looks at the peak again.
+  data Shift (map : List ℕ) (peak : ℕ) : Outcome → Type 0 where
+    stays : {k : Marking} → k .map ≡ map → k .peak ≡ peak → Shift map peak (going k)
+    splits : {k : Marking} → k .peak ≡ max peak (intervals heap t k) → Shift map peak (going k)
+    ends : {k : Marking} → k .map ≡ map → k .peak ≡ peak → Shift map peak (done k)
+    stops : {c r : ℕ} → Shift map peak (refused c r)
+
+  -- So does meeting a reference.
+  meets-shift : {m : Marking} {r : ℕ} {o : Outcome} → Meets heap t m r o → Shift (m .map) (m .peak) o
+  unfolding marked
+  meets-shift (empty none) = stays refl refl
+  meets-shift (outside some l) = stops
+  meets-shift (again some l old) = stays refl refl
+  meets-shift (ill-formed new e) = stops
+  meets-shift (overlapping new well e) = stops
+  meets-shift (apart new well free) = splits refl
+
+  -- One move, by what is left to read.
+  moves-shift : (m : Marking) (todo stack left : List ℕ) → Shift (m .map) (m .peak) (move heap t (leaving m todo stack left (m .references)))
+  unfolding move
+  moves-shift m (r ∷ todo) stack left = meets-shift (meet-meets heap t (leaving m todo stack left (suc (m .references))) r)
+  moves-shift m [] (a ∷ stack) left = stays refl refl
+  moves-shift m [] [] (r ∷ left) = meets-shift (meet-meets heap t (leaving m [] [] left (suc (m .references))) r)
+  moves-shift m [] [] [] = ends refl refl
+
+  -- One move.
+  move-shift : (m : Marking) → Shift (m .map) (m .peak) (move heap t m)
+  move-shift m = moves-shift m (m .todo) (m .stack) (m .roots)
+
+  -- Moves made one after the other.
+  run-add : (a b c : ℕ) → a + b ≡ c → (o : Outcome) → run c heap t o ≡ run b heap t (run a heap t o)
+  unfolding run
+  run-add zero b c e o = let same : c ≡ b = omega arith in rw same
+  run-add (suc a) b zero e o = absurd (omega arith)
+  run-add (suc a) b (suc c) e (going m) = run-add a b c (omega arith) (move heap t m)
+  run-add (suc a) b (suc c) e (done m) = sym (run-done b heap t m)
+  run-add (suc a) b (suc c) e (refused n r) = sym (run-refused b heap t n r)
+
+  -- The peak is not below p.
+  abbrev AtLeast : ℕ → Outcome → Type 0
+  AtLeast p (going m) = p ≤ m .peak
+  AtLeast p (done m) = p ≤ m .peak
+  AtLeast p (refused c r) = Unit
+
+  -- Moves do not lower it.
+  shift-least : {p : ℕ} {map : List ℕ} {peak : ℕ} {o : Outcome} → p ≤ peak → Shift map peak o → AtLeast p o
+  shift-least l (stays e f) = omega arith
+  shift-least l (splits e) = omega arith
+  shift-least l (ends e f) = omega arith
+  shift-least l stops = tt
+
+  run-least : (n p : ℕ) (o : Outcome) → AtLeast p o → AtLeast p (run n heap t o)
+  unfolding run
+  run-least zero p o l = l
+  run-least (suc n) p (going m) l = run-least n p (move heap t m) (shift-least l (move-shift m))
+  run-least (suc n) p (done m) l = l
+  run-least (suc n) p (refused c r) l = l
+
+  module _ (roots : List ℕ) where
+    -- The collection after n moves.
+    abbrev at : ℕ → Outcome
+    at n = run n heap t (going (begin heap t roots))
+
+    -- No more intervals than the peak are listed now, and so many were listed at some moment.
+    record Tops (m : Marking) : Type 0 where
+      now : intervals heap t m ≤ m .peak
+      seen : (n : ℕ) × (k : Marking) × After heap t roots n k × (intervals heap t k ≡ m .peak)
+
+    abbrev Topped : Outcome → Type 0
+    Topped (going m) = Tops m
+    Topped (done m) = Tops m
+    Topped (refused c r) = Unit
+
+    -- A move keeps that, if it leads to the collection after n moves.
+    shift-tops : {m : Marking} {o : Outcome} (n : ℕ) → at n ≡ o → Tops m → Shift (m .map) (m .peak) o → Topped o
+    shift-tops {m} n e g (stays {k} p q) = record { now = rw (p, q) (g .now); seen = rw q (g .seen) }
+    shift-tops {m} n e g (ends {k} p q) = record { now = rw (p, q) (g .now); seen = rw q (g .seen) }
+    shift-tops {m} n e g stops = tt
+    shift-tops {m} n e g (splits {k} p) = record { now = omega arith; seen = elim (decLe (intervals heap t k) (m .peak)) [ yes l ↦ old l | no l ↦ (n, k, e, omega arith) ] }
+      where
+        old : intervals heap t k ≤ m .peak → (n : ℕ) × (j : Marking) × After heap t roots n j × (intervals heap t j ≡ k .peak)
+        old l = let same : m .peak ≡ k .peak = omega arith in (g .seen .0, g .seen .1, g .seen .2, g .seen .3 ∙ same)
+
+    -- It holds at every moment.
+    always-topped : (n : ℕ) → Topped (at n)
+    unfolding run begin
+    always-topped zero = record { now = omega arith; seen = (0, begin heap t roots, refl, refl) }
+    always-topped (suc n) = go (at n) refl (always-topped n)
+      where
+        next : (o : Outcome) → at n ≡ o → at (suc n) ≡ run 1 heap t o
+        next o e = run-add n 1 (suc n) (omega arith) (going (begin heap t roots)) ∙ ap (run 1 heap t) e
+
+        go : (o : Outcome) → at n ≡ o → Topped o → Topped (at (suc n))
+        go (going m) e g = let moved : at (suc n) ≡ move heap t m = next (going m) e in rw moved (shift-tops (suc n) moved g (move-shift m))
+        go (done m) e g = rw (next (done m) e) g
+        go (refused c r) e g = rw (next (refused c r) e) g
+
+    module _ {m : Marking} (over : collection heap t roots ≡ done m) where
+      -- A collection that is done has been at every moment before.
+      before : (n : ℕ) (k : Marking) → After heap t roots n k → (rest : ℕ) × (run rest heap t (going k) ≡ done m)
+      unfolding collection
+      before n k e =
+          let all : ℕ = suc (length roots + length heap) in
+          let o : Outcome = going (begin heap t roots) in
+          let there : run all heap t (going k) ≡ done m = ap (run all heap t) (sym e) ∙ sym (run-add n all (n + all) refl o) ∙ run-add all n (n + all) (omega arith) o ∙ ap (run n heap t) over ∙ run-done n heap t m in
+          (all, there)
+
+      -- The answer's peak is the peak.
+      pub peak-is : Peak heap t roots (m .peak)
+      unfolding collection
+      peak-is = record { seen = done-tops .seen; most = most }
+        where
+          done-tops : Tops m
+          done-tops = rw over at (always-topped (suc (length roots + length heap)))
+
+          most : (n : ℕ) (k : Marking) → After heap t roots n k → intervals heap t k ≤ m .peak
+          most n k e =
+              let x = before n k e in
+              let tops : Tops k = rw e at (always-topped n) in
+              let least : k .peak ≤ m .peak = rw (x .1) at (run-least (x .0) (k .peak) (going k) (omega arith)) in
+              omega (arith, tops .now)

@@ -1,0 +1,32 @@
+-- What the roots reach, said without a machine, and what a collection can find wrong with it.
+use Prim.Native.Nat.{ℕ, _+_, _≤_, _<_}
+use mathlib.Core.Path.{_≡_}
+use mathlib.Core.Logic.{_≢_}
+use mathlib.Core.Bool.{true, false}
+use mathlib.Core.List.{List, List·Memᴰ}
+use lib.ListN.{length}
+use Rattle.words.specs.Header.{sizeAt, wellFormed, fieldsOf}
+
+-- The address r is reached: it is a root, or a reference of an object that is reached, and it is not empty.
+pub data Reach (heap roots : List ℕ) : ℕ → Type 0 where
+  by-root : {r : ℕ} → List·Memᴰ r roots → r ≢ 0 → Reach heap roots r
+  by-field : {a r : ℕ} → Reach heap roots a → List·Memᴰ r (fieldsOf heap a) → r ≢ 0 → Reach heap roots r
+
+-- Word w lies in an object that is reached.
+abbrev pub Live : List ℕ → List ℕ → ℕ → Type 0
+Live heap roots w = (a : ℕ) × Reach heap roots a × (a ≤ w) × (w < a + sizeAt heap a)
+
+-- The objects at a and b overlap: each begins before the other ends.
+abbrev pub Overlap : List ℕ → ℕ → ℕ → Type 0
+Overlap heap a b = (a < b + sizeAt heap b) × (b < a + sizeAt heap a)
+
+-- Whatever is reached is a well-formed object, and no two such objects overlap.
+pub record Sound (heap : List ℕ) (t : ℕ) (roots : List ℕ) : Type 0 where
+  pub formed : (a : ℕ) → Reach heap roots a → wellFormed heap t a ≡ true
+  pub apart : (a b : ℕ) → Reach heap roots a → Reach heap roots b → a ≢ b → ¬ Overlap heap a b
+
+-- What the numbers 4, 5 and 6 say of the reference r that they name: it is reached, and it lies outside the heap, or its header is not well-formed, or its object overlaps another one that is reached.
+pub data Fault (heap : List ℕ) (t : ℕ) (roots : List ℕ) : ℕ → ℕ → Type 0 where
+  bad-address : {r : ℕ} → Reach heap roots r → length heap ≤ r → Fault heap t roots 4 r
+  bad-header : {r : ℕ} → Reach heap roots r → r < length heap → wellFormed heap t r ≡ false → Fault heap t roots 5 r
+  overlap : {r b : ℕ} → Reach heap roots r → wellFormed heap t r ≡ true → Reach heap roots b → wellFormed heap t b ≡ true → r ≢ b → Overlap heap r b → Fault heap t roots 6 r

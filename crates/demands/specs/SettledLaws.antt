@@ -1,0 +1,94 @@
+-- What a collection that is done has found, and why one that is refused had to be.
+use Prim.Native.Nat.{ℕ, _+_, _≤_, _<_}
+use mathlib.Core.Path.{_≡_, refl, _∙_}
+use mathlib.Core.Logic.{_≢_, _↔_, Iff·symm}
+use mathlib.Core.Bool.{Bool, true, false}
+use mathlib.Core.List.{List, [], List·Memᴰ·not-nil}
+use native.Mathlib.Omega.{arith}
+use lib.ListN.{length}
+use Rattle.words.specs.Header.{sizeAt, fieldsOf}
+use Rattle.words.specs.HeaderLaws.{Formed, formed}
+use Rattle.words.specs.Map.{bitAt, covered}
+use Rattle.words.specs.MapLaws.{start, is-start}
+use Rattle.words.specs.CoverLaws.{owner-covers, covered-owner}
+use Rattle.layout.specs.declared.Interval.{Interval}
+use Rattle.runs.specs.Runs.{freeList, runs}
+use Rattle.runs.specs.Lists.{Member, Longest}
+use Rattle.runs.specs.LongestLaws.{clash, longest-same, runs-longest}
+use Rattle.runs.specs.CutLaws.{runs-agree}
+use Rattle.marking.specs.Marking.{Marking}
+use Rattle.demands.specs.Reach.{Reach, by-root, by-field, Live, Sound, Fault, bad-address, bad-header, overlap}
+use Rattle.demands.specs.Demand2.{Tells, total}
+use Rattle.demands.specs.TotalLaws.{tells-same, total-same}
+use Rattle.demands.specs.Tracks.{Named, a-root, a-field, Tracks}
+use Rattle.demands.specs.MarkedLaws.{reach-some}
+
+-- A bit that cannot be clear is set.
+not-clear : (b : Bool) → (b ≡ false → ⊥) → b ≡ true
+not-clear true f = refl
+not-clear false f = absurd (f refl)
+
+-- Where a number says that a reference is at fault, not all is sound.
+pub unsound : {heap : List ℕ} {t : ℕ} {roots : List ℕ} {c r : ℕ} → Fault heap t roots c r → ¬ Sound heap t roots
+unsound {heap} {t} (bad-address {r} met l) s = let f : Formed heap t r = formed heap t r (s .formed r met) in omega (arith, f .ends, f .fewer)
+unsound (bad-header {r} met l e) s = clash (s .formed r met) e
+unsound (overlap {r} {b} met well met′ well′ other o) s = s .apart r b met met′ other o
+
+module _ {heap : List ℕ} {t : ℕ} {roots : List ℕ} {m : Marking} (g : Tracks heap t roots [] m) where
+  -- With nothing left to be read, whatever a root or an object on the map names is on the map.
+  no-more : (r : ℕ) → Named heap roots (m .map) r → r ≢ 0 → bitAt (m .map) r ≡ true
+  no-more r n some = not-clear (bitAt (m .map) r) λ clear. List·Memᴰ·not-nil (g .pending .named r n some clear)
+
+  -- So is whatever is reached.
+  all-marked : {a : ℕ} → Reach heap roots a → bitAt (m .map) a ≡ true
+  all-marked (by-root {r} i some) = no-more r (a-root i) some
+  all-marked (by-field {a} {r} p i some) = no-more r (a-field a (all-marked p) i) some
+
+  -- Just the objects that are reached are on the map.
+  pub bits-tell : Tells (bitAt (m .map)) (Reach heap roots)
+  bits-tell a = (g .marked .reached a, all-marked)
+
+  -- All is sound.
+  pub settled-sound : Sound heap t roots
+  settled-sound = record { formed = λ a p. g .marked .formed a (all-marked p); apart = λ a b p q. g .marked .apart a b (all-marked p) (all-marked q) }
+
+  -- What is reached is an address of the heap behind word 0.
+  pub reach-inside : {a : ℕ} → Reach heap roots a → (0 < a) × (a < length heap)
+  reach-inside {a} p =
+      let f : Formed heap t a = formed heap t a (settled-sound .formed a p) in
+      let some : a ≢ 0 = reach-some p in
+      (omega arith, omega (arith, f .ends, f .fewer))
+
+  -- Just the words of objects that are reached are covered.
+  pub covered-tells : Tells (covered heap (m .map)) (Live heap roots)
+  covered-tells w = (
+    λ e. let o = covered-owner heap (m .map) w e in (o .0, g .marked .reached (o .0) (start (length heap) (m .map) (o .0) (o .1 .start) .bit), o .1 .low, o .1 .high),
+    λ (a, p, lo, hi). let x = reach-inside p in
+        owner-covers heap (m .map) w a (record { start = is-start (length heap) (m .map) a (record { some = x .0; inside = x .1; bit = all-marked p }); low = lo; high = hi }),
+  )
+
+  -- The list has just the longest runs outside what is reached.
+  pub list-longest : 1 ≤ t → (i : Interval) → Member (freeList t heap (m .map)) i ↔ Longest t (Live heap roots) 1 (length heap) i
+  unfolding freeList
+  list-longest keeps i =
+      let x = runs-longest t (length heap) (covered heap (m .map)) i keeps in
+      (λ y. longest-same covered-tells (x .0 y), λ y. x .1 (longest-same (λ w. Iff·symm (covered-tells w)) y))
+
+  -- It is what the sweep gives, by any test that tells the words of objects that are reached.
+  pub list-swept : (live : ℕ → Bool) → Tells live (Live heap roots) → freeList t heap (m .map) ≡ runs t (length heap) live
+  unfolding freeList
+  list-swept live tells = runs-agree t (length heap) live (covered heap (m .map)) (λ w lo hi. tells-same covered-tells tells w)
+
+  -- The counts are sums over what is reached, by any test that tells it, and the roots.
+  module _ {reached : ℕ → Bool} (tells : Tells reached (Reach heap roots)) where
+    same-sum : (f : ℕ → ℕ) → total (bitAt (m .map)) f (length heap) ≡ total reached f (length heap)
+    same-sum f = total-same f (tells-same bits-tell tells) (length heap)
+
+    pub objects-sum : m .objects ≡ total reached (λ a. 1) (length heap)
+    objects-sum = g .counted .objects-are ∙ same-sum (λ a. 1)
+
+    pub live-sum : m .live ≡ total reached (sizeAt heap) (length heap)
+    live-sum = g .counted .live-is ∙ same-sum (sizeAt heap)
+
+    pub references-sum : m .references ≡ length roots + total reached (λ a. length (fieldsOf heap a)) (length heap)
+    references-sum = omega (arith, g .counted .references-are, same-sum (λ a. length (fieldsOf heap a)))

@@ -1,0 +1,1 @@
+// The demands: definitions and theorems alone, with no code.
