@@ -8,9 +8,8 @@ use lib.ListN.{length, take}
 use Rattle.words.specs.Header.{sizeAt, fieldsOf}
 use Rattle.words.specs.Map.{bitAt, isStart}
 use Rattle.layout.specs.Intervals.{shown}
-use Rattle.layout.specs.Limits.{maxRoots, suits, mapWords, stackWords, listWords}
+use Rattle.layout.specs.Limits.{mapWords, listWords}
 use Rattle.layout.specs.declared.Interval.{Interval}
-use Rattle.layout.specs.declared.State.{State}
 use Rattle.runs.specs.Runs.{runs, freeList}
 use Rattle.runs.specs.Lists.{Member, Longest, Ordered}
 use Rattle.freelist.specs.Records.{records}
@@ -18,14 +17,6 @@ use Rattle.marking.specs.Marking.{Marking, going, run, begin}
 use Rattle.collector.specs.Collect.{Left}
 use Rattle.collector.specs.declared.Collected.{Collected}
 use Rattle.demands.specs.Reach.{Reach, Live, Sound, Fault}
-
--- What is lent to a collection is within the limits, and no buffer is shorter than needed.
-pub record Lent (state : State) (heap roots map stack list : List ℕ) : Type 0 where
-  pub suit : suits state heap ≡ true
-  pub few : length roots ≤ maxRoots
-  pub map-room : mapWords (state .words) ≤ length map
-  pub stack-room : stackWords (state .words) (state .keep) ≤ length stack
-  pub list-room : listWords (state .words) (state .keep) ≤ length list
 
 -- Just the numbers of which P holds pass the test.
 abbrev pub Tells : (ℕ → Bool) → (ℕ → Type 0) → Type 0
@@ -43,8 +34,8 @@ pub record Sums (heap roots : List ℕ) (reached : ℕ → Bool) (answer : Colle
   pub references : answer .references ≡ length roots + total reached (λ a. length (fieldsOf heap a)) (length heap)
 
 -- After n moves from the beginning the collection stands at m.
-abbrev pub After : List ℕ → ℕ → List ℕ → ℕ → Marking → Type 0
-After heap t roots n m = run n heap t (going (begin heap t roots)) ≡ going m
+abbrev pub Moment : List ℕ → ℕ → List ℕ → ℕ → Marking → Type 0
+Moment heap t roots n m = run n heap t (going (begin heap t roots)) ≡ going m
 
 -- How many intervals are listed at m.
 abbrev pub intervals : List ℕ → ℕ → Marking → ℕ
@@ -52,8 +43,8 @@ intervals heap t m = length (freeList t heap (m .map))
 
 -- The peak is the greatest number of intervals listed at any moment.
 pub record Peak (heap : List ℕ) (t : ℕ) (roots : List ℕ) (peak : ℕ) : Type 0 where
-  pub seen : (n : ℕ) × (m : Marking) × After heap t roots n m × (intervals heap t m ≡ peak)
-  pub most : (n : ℕ) (m : Marking) → After heap t roots n m → intervals heap t m ≤ peak
+  pub seen : (n : ℕ) × (m : Marking) × Moment heap t roots n m × (intervals heap t m ≡ peak)
+  pub most : (n : ℕ) (m : Marking) → Moment heap t roots n m → intervals heap t m ≤ peak
 
 -- What a collection that succeeds answers, and what it leaves in map and list.
 pub record Finds (heap : List ℕ) (t : ℕ) (roots : List ℕ) (answer : Collected) (map list : List ℕ) : Type 0 where

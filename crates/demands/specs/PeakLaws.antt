@@ -10,7 +10,7 @@ use Rattle.marking.specs.Marking.{Marking, Outcome, going, done, refused, marke
 use Rattle.marking.specs.Meets.{Meets, empty, outside, again, ill-formed, overlapping, apart}
 use Rattle.marking.specs.MeetLaws.{meet-meets}
 use Rattle.marking.specs.InvariantLaws.{run-done, run-refused}
-use Rattle.demands.specs.Demand2.{After, intervals, Peak}
+use Rattle.demands.specs.Demand2.{Moment, intervals, Peak}
 
 module _ (heap : List ℕ) (t : ℕ) where
   -- What a move does to map and peak: nothing, or it splits an interval and looks at the peak again.
@@ -79,7 +79,7 @@ module _ (heap : List ℕ) (t : ℕ) where
     -- No more intervals than the peak are listed now, and so many were listed at some moment.
     record Tops (m : Marking) : Type 0 where
       now : intervals heap t m ≤ m .peak
-      seen : (n : ℕ) × (k : Marking) × After heap t roots n k × (intervals heap t k ≡ m .peak)
+      seen : (n : ℕ) × (k : Marking) × Moment heap t roots n k × (intervals heap t k ≡ m .peak)
 
     abbrev Topped : Outcome → Type 0
     Topped (going m) = Tops m
@@ -93,7 +93,7 @@ module _ (heap : List ℕ) (t : ℕ) where
     shift-tops {m} n e g stops = tt
     shift-tops {m} n e g (splits {k} p) = record { now = omega arith; seen = elim (decLe (intervals heap t k) (m .peak)) [ yes l ↦ old l | no l ↦ (n, k, e, omega arith) ] }
       where
-        old : intervals heap t k ≤ m .peak → (n : ℕ) × (j : Marking) × After heap t roots n j × (intervals heap t j ≡ k .peak)
+        old : intervals heap t k ≤ m .peak → (n : ℕ) × (j : Marking) × Moment heap t roots n j × (intervals heap t j ≡ k .peak)
         old l = let same : m .peak ≡ k .peak = omega arith in (g .seen .0, g .seen .1, g .seen .2, g .seen .3 ∙ same)
 
     -- It holds at every moment.
@@ -112,7 +112,7 @@ module _ (heap : List ℕ) (t : ℕ) where
 
     module _ {m : Marking} (over : collection heap t roots ≡ done m) where
       -- A collection that is done has been at every moment before.
-      before : (n : ℕ) (k : Marking) → After heap t roots n k → (rest : ℕ) × (run rest heap t (going k) ≡ done m)
+      before : (n : ℕ) (k : Marking) → Moment heap t roots n k → (rest : ℕ) × (run rest heap t (going k) ≡ done m)
       unfolding collection
       before n k e =
           let all : ℕ = suc (length roots + length heap) in
@@ -128,7 +128,7 @@ module _ (heap : List ℕ) (t : ℕ) where
           done-tops : Tops m
           done-tops = rw over at (always-topped (suc (length roots + length heap)))
 
-          most : (n : ℕ) (k : Marking) → After heap t roots n k → intervals heap t k ≤ m .peak
+          most : (n : ℕ) (k : Marking) → Moment heap t roots n k → intervals heap t k ≤ m .peak
           most n k e =
               let x = before n k e in
               let tops : Tops k = rw e at (always-topped n) in

@@ -1,4 +1,4 @@
--- What a collection that is done has found, and why one that is refused had to be.
+-- What a collection that is done has found.
 use Prim.Native.Nat.{ℕ, _+_, _≤_, _<_}
 use mathlib.Core.Path.{_≡_, refl, _∙_}
 use mathlib.Core.Logic.{_≢_, _↔_, Iff·symm}
@@ -14,10 +14,10 @@ use Rattle.words.specs.CoverLaws.{owner-covers, covered-owner}
 use Rattle.layout.specs.declared.Interval.{Interval}
 use Rattle.runs.specs.Runs.{freeList, runs}
 use Rattle.runs.specs.Lists.{Member, Longest}
-use Rattle.runs.specs.LongestLaws.{clash, longest-same, runs-longest}
+use Rattle.runs.specs.LongestLaws.{longest-same, runs-longest}
 use Rattle.runs.specs.CutLaws.{runs-agree}
 use Rattle.marking.specs.Marking.{Marking}
-use Rattle.demands.specs.Reach.{Reach, by-root, by-field, Live, Sound, Fault, bad-address, bad-header, overlap}
+use Rattle.demands.specs.Reach.{Reach, by-root, by-field, Live, Sound}
 use Rattle.demands.specs.Demand2.{Tells, total}
 use Rattle.demands.specs.TotalLaws.{tells-same, total-same}
 use Rattle.demands.specs.Tracks.{Named, a-root, a-field, Tracks}
@@ -27,12 +27,6 @@ use Rattle.demands.specs.MarkedLaws.{reach-some}
 not-clear : (b : Bool) → (b ≡ false → ⊥) → b ≡ true
 not-clear true f = refl
 not-clear false f = absurd (f refl)
-
--- Where a number says that a reference is at fault, not all is sound.
-pub unsound : {heap : List ℕ} {t : ℕ} {roots : List ℕ} {c r : ℕ} → Fault heap t roots c r → ¬ Sound heap t roots
-unsound {heap} {t} (bad-address {r} met l) s = let f : Formed heap t r = formed heap t r (s .formed r met) in omega (arith, f .ends, f .fewer)
-unsound (bad-header {r} met l e) s = clash (s .formed r met) e
-unsound (overlap {r} {b} met well met′ well′ other o) s = s .apart r b met met′ other o
 
 module _ {heap : List ℕ} {t : ℕ} {roots : List ℕ} {m : Marking} (g : Tracks heap t roots [] m) where
   -- With nothing left to be read, whatever a root or an object on the map names is on the map.

@@ -1,9 +1,14 @@
 -- Laws of how a call refuses.
 use Prim.Native.Nat.{ℕ, _<_}
 use mathlib.Core.Path.{_≡_, refl}
-use mathlib.Core.Bool.{Bool, true, false}
+use mathlib.Core.Bool.{Bool, true, false, cond}
 use native.Mathlib.Omega.{arith}
 use Rattle.layout.specs.Refusal.{unless}
+
+-- A choice has a property where each side has it if taken.
+pub by-test : {A : Type 0} (P : A → Type 0) (test : Bool) {x y : A} → (test ≡ true → P x) → (test ≡ false → P y) → P (cond test x y)
+by-test P true p q = p refl
+by-test P false p q = q refl
 
 -- Where no number but 0 comes out, the test held, and 0 came from what was next.
 pub no-refusal : (test : Bool) (n next : ℕ) → 0 < n → unless test n next ≡ 0 → (test ≡ true) × (next ≡ 0)

@@ -1,8 +1,8 @@
 -- Laws of meeting a reference.
 use Prim.Native.Nat.{ℕ, _+_, _-_, _≤_, _<_}
-use mathlib.Core.Path.{_≡_, refl}
+use mathlib.Core.Path.{_≡_}
 use mathlib.Core.Logic.{_≢_, _↔_}
-use mathlib.Core.Bool.{Bool, true, false, cond}
+use mathlib.Core.Bool.{true, false}
 use mathlib.Core.List.{List}
 use mathlib.Mathlib.Data.Bool.Basic.{eq-false-of-not-eq-true}
 use native.Mathlib.Omega.{arith}
@@ -13,6 +13,7 @@ use Rattle.words.specs.Header.{sizeAt, wellFormed}
 use Rattle.words.specs.HeaderLaws.{Formed}
 use Rattle.words.specs.Map.{bitAt, someBelow, covered}
 use Rattle.words.specs.CoverLaws.{some-below, below-some}
+use Rattle.layout.specs.RefusalLaws.{by-test}
 use Rattle.runs.specs.Runs.{freeList}
 use Rattle.runs.specs.Covers.{Free}
 use Rattle.runs.specs.Lists.{Holds}
@@ -61,11 +62,6 @@ module _ {heap : List ℕ} {t : ℕ} {m : Marking} {r : ℕ} where
   meets-meet (ill-formed new e) = rw (ne-eqb r 0 (new .some), lt-ltb r (length heap) (new .inside), new .unmarked, e)
   meets-meet (overlapping new well e) = rw (ne-eqb r 0 (new .some), lt-ltb r (length heap) (new .inside), new .unmarked, well, e)
   meets-meet (apart new well e) = rw (ne-eqb r 0 (new .some), lt-ltb r (length heap) (new .inside), new .unmarked, well, e)
-
--- A choice has a property where each side has it if taken.
-by-test : {A : Type 0} (P : A → Type 0) (test : Bool) {x y : A} → (test ≡ true → P x) → (test ≡ false → P y) → P (cond test x y)
-by-test P true p q = p refl
-by-test P false p q = q refl
 
 -- The machine's answer has its reason.
 pub meet-meets : (heap : List ℕ) (t : ℕ) (m : Marking) (r : ℕ) → Meets heap t m r (meet heap t m r)

@@ -7,6 +7,7 @@ use native.Mathlib.Omega.{arith}
 use native.Mathlib.Decide.{decLe}
 use lib.Dec.{leb}
 use borrow.Author.Tests.{leb-true, leb-false}
+use Rattle.layout.specs.RefusalLaws.{by-test}
 use Rattle.layout.specs.declared.Interval.{Interval}
 use Rattle.runs.specs.Runs.{kept, runsFrom, runs}
 use Rattle.runs.specs.Covers.{Free}
@@ -19,11 +20,7 @@ pub data Sweep (k : ℕ) (cov : ℕ → Bool) (e : ℕ) : ℕ → List Interval 
 -- Words that have the keep length are listed, and others are not.
 pub kept-cases : (P : List Interval → Type 0) (k at n : ℕ) (l : List Interval) → (k ≤ n → P (record { start = at; size = n } ∷ l)) → (n < k → P l) → P (kept k at n l)
 unfolding kept
-kept-cases P k at n l long short = go (leb k n) refl
-  where
-    go : (t : Bool) → leb k n ≡ t → P (cond t (record { start = at; size = n } ∷ l) l)
-    go true e = long (leb-true k n e)
-    go false e = short (leb-false k n e)
+kept-cases P k at n l long short = by-test P (leb k n) (λ e. long (leb-true k n e)) (λ e. short (leb-false k n e))
 
 -- A run that has the keep length is listed.
 pub kept-long : (k at n : ℕ) (l : List Interval) → k ≤ n → kept k at n l ≡ record { start = at; size = n } ∷ l

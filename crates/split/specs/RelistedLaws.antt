@@ -3,7 +3,7 @@ use Prim.Native.Nat.{ℕ, _+_, _-_, _*_, _≤_}
 use mathlib.Core.Path.{_≡_, refl, ap, _∙_}
 use mathlib.Core.List.{List, [], _∷_, _++_, append-assoc}
 use native.Mathlib.Omega.{arith}
-use lib.ListN.{length, drop, replicate, length-append, length-replicate, replicate-append-replicate}
+use lib.ListN.{length, drop, replicate, length-append, length-drop, length-replicate, replicate-append-replicate}
 use lib.Seq.{drop-at, drop-append-add}
 use Rattle.layout.specs.declared.Interval.{Interval}
 use Rattle.layout.specs.Intervals.{flat, shown}
@@ -43,6 +43,14 @@ relisted-more n k l list e =
 pub length-shown : (room : ℕ) (l : List Interval) → 2 * length l ≤ room → length (shown room l) ≡ room
 unfolding shown
 length-shown room l fits = omega (arith, length-append (flat l) (replicate (room - 2 * length l) 0), length-replicate {A = ℕ} (room - 2 * length l) 0, length-flat l)
+
+-- A list written over another keeps the number of the words, if both have room in them.
+pub length-relisted : (n : ℕ) (l : List Interval) (list : List ℕ) → 2 * n ≤ length list → 2 * length l ≤ length list → length (relisted n l list) ≡ length list
+unfolding relisted shown
+length-relisted n l list room fits =
+    let zeros : List ℕ = replicate (2 * n - 2 * length l) 0 in
+    let front : List ℕ = flat l ++ zeros in
+    omega (arith, length-append front (drop (length front) list), length-drop (length front) list, length-append (flat l) zeros, length-flat l, length-replicate {A = ℕ} (2 * n - 2 * length l) 0)
 
 -- A list shown with zeros behind it is read back.
 pub records-shown : (room : ℕ) (l : List Interval) → records (length l) (shown room l) ≡ l

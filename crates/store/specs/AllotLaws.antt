@@ -149,7 +149,8 @@ module _ {state : State} {heap map list : List ℕ} {s p j : ℕ} (x : Chosen st
   there : j < state .count
   there = omega (arith, x .front .there, length-records (state .count) list)
 
-  ends : a + s ≤ length heap
+  -- Its front lies in the heap.
+  pub ends : a + s ≤ length heap
   ends = omega (arith, x .ready .same, x .front .high, ordered-last (x .ready .ordered) j (x .front .there))
 
   -- Its record can be read, and its front taken off the list.

@@ -1,0 +1,109 @@
+-- Demand 1 for collect: how it ends.
+use Prim.Native.Nat.{ℕ, _*_, _≤_}
+use mathlib.Core.Path.{_≡_, refl}
+use mathlib.Core.Logic.{_≢_}
+use mathlib.Core.List.{List, [], _∷_, List·Memᴰ, List·Memᴰ·head, List·Memᴰ·tail, List·Memᴰ·eq-of-singleton, Memᴰ·append-left, Memᴰ·append-right}
+use native.Mathlib.Omega.{arith}
+use lib.ListN.{length, drop}
+use Rattle.layout.specs.Intervals.{shown}
+use Rattle.layout.specs.Limits.{mapWords, stackWords, listWords}
+use Rattle.layout.specs.LimitsLaws.{suits-limits}
+use Rattle.layout.specs.declared.Interval.{Interval}
+use Rattle.layout.specs.declared.State.{State}
+use Rattle.runs.specs.Runs.{freeList}
+use Rattle.runs.specs.FreeListLaws.{list-fits}
+use Rattle.split.specs.RelistedLaws.{length-shown}
+use Rattle.marking.specs.Marking.{Marking, Outcome, going, done, refused, collection}
+use Rattle.collector.specs.Collect.{Left, settled, settles, collectsIn, collects}
+use Rattle.demands.specs.Reach.{Fault}
+use Rattle.demands.specs.Lent.{Lent}
+use Rattle.demands.specs.Demand1.{lentRefused, markingRefused, CollectEnds}
+use Rattle.demands.specs.Tracks.{Told}
+use Rattle.demands.specs.TracksLaws.{collection-told}
+use Rattle.demands.specs.FaultLaws.{fault-number, fault-above}
+use Rattle.demands.specs.RefusesLaws.{kept-same, kept-front, kept-clear, answers, refusal}
+use Rattle.demands.specs.LentLaws.{inFront, lent-cases}
+
+-- A number for what was lent is 1 or 2.
+one-or-two : {n : ℕ} → List·Memᴰ n (1 ∷ 2 ∷ []) → n ≢ 1 → ¬ (n ≢ 2)
+one-or-two (List·Memᴰ·head e) a b = a e
+one-or-two (List·Memᴰ·tail m) a b = b (List·Memᴰ·eq-of-singleton m)
+
+module _ (state : State) (heap roots map stack list : List ℕ) where
+  -- How many words the heap has.
+  abbrev h : ℕ
+  h = state .words
+
+  -- The keep length.
+  abbrev t : ℕ
+  t = state .keep
+
+  -- What is lent is within the limits, and long enough.
+  abbrev Given : Type 0
+  Given = Lent state heap roots map stack list
+
+  -- What demand 1 says of an outcome.
+  abbrev Ends : Left → Type 0
+  Ends = CollectEnds state heap roots map stack list
+
+  -- A collection that is refused for what was lent ends so.
+  ends-unlent : {n : ℕ} → ¬ Given → List·Memᴰ n (1 ∷ 2 ∷ []) → Ends (lentRefused state map stack list n)
+  ends-unlent none m = record {
+    lent = (λ given. absurd (none given), λ x. absurd (one-or-two m (x .0) (x .1)));
+    unlent = λ e. refusal (λ n. refl) m;
+    fails = λ given. absurd (none given);
+    numbers = λ some. Memᴰ·append-left (4 ∷ 5 ∷ 6 ∷ []) m;
+    succeeds = λ z. refl;
+    keeps-map = kept-same;
+    keeps-stack = kept-same;
+    keeps-list = kept-same;
+  }
+
+  module _ (given : Given) where
+    -- The heap has the state's words.
+    same : length heap ≡ h
+    same = suits-limits state heap (given .suit) .1
+
+    -- A collection that is refused while marking ends so.
+    ends-failed : {n place : ℕ} → Fault heap t roots n place → Ends (markingRefused state map stack list place n)
+    ends-failed f = record {
+      lent = (λ g. (λ e. omega (arith, fault-above f), λ e. omega (arith, fault-above f)), λ x. given);
+      unlent = λ none. absurd (none given);
+      fails = λ g some. refusal (λ n. refl) (fault-number f);
+      numbers = λ some. Memᴰ·append-right (1 ∷ 2 ∷ []) (fault-number f);
+      succeeds = λ z. absurd (omega (arith, fault-above f));
+      keeps-map = kept-clear map (given .map-room);
+      keeps-stack = kept-clear stack (given .stack-room);
+      keeps-list = kept-clear list (given .list-room);
+    }
+
+    -- What is left in the needed parts, in front of the rest.
+    abbrev joined : Left → Left
+    joined parts = inFront parts (drop (mapWords h) map) (drop (stackWords h t) stack) (drop (listWords h t) list)
+
+    -- A collection that succeeds ends so.
+    ends-settled : (m : Marking) → length (m .map) ≡ mapWords (length heap) → Ends (joined (settled heap t m))
+    ends-settled m long =
+        let free : List Interval = freeList t heap (m .map) in
+        let fits : 2 * length free ≤ listWords h t = rw same at (list-fits t heap (m .map) (suits-limits state heap (given .suit) .0 .keeps)) in
+        rw same record {
+          lent = (λ g. (λ e. omega arith, λ e. omega arith), λ x. given);
+          unlent = λ none. absurd (none given);
+          fails = λ g. answers refl;
+          numbers = λ some. absurd (some refl);
+          succeeds = λ z. refl;
+          keeps-map = kept-front (m .map) map (rw same at long) (given .map-room);
+          keeps-stack = kept-clear stack (given .stack-room);
+          keeps-list = kept-front (shown (listWords h t) free) list (length-shown (listWords h t) free fits) (given .list-room);
+        }
+
+    -- It ends so by what marking comes to.
+    ends-by : (o : Outcome) → Told heap t roots o → Ends (joined (settles heap t o))
+    ends-by (going m) g = ends-settled m (g .marked .sized)
+    ends-by (done m) g = ends-settled m (g .marked .sized)
+    ends-by (refused c r) f = rw same (ends-failed f)
+
+  -- Every collection ends so.
+  pub collect-ends : CollectEnds state heap roots map stack list (collects state heap roots map stack list)
+  unfolding collectsIn
+  collect-ends = lent-cases state heap roots map stack list Ends (λ given. ends-by given (collection heap t roots) (collection-told heap t roots)) (λ n. ends-unlent)

@@ -1,0 +1,58 @@
+-- A collection is refused for what it is lent, or it is one in the needed parts.
+use Prim.Native.Nat.{ℕ}
+use mathlib.Core.Path.{_≡_, refl}
+use mathlib.Core.Bool.{Bool, true, _&&_, and-eq-true-iff}
+use mathlib.Core.List.{List, [], _∷_, _++_, List·Memᴰ, List·Memᴰ·head, List·Memᴰ·tail}
+use lib.ListN.{length, drop}
+use lib.Dec.{leb}
+use borrow.Author.Tests.{leb-true, le-leb}
+use Rattle.layout.specs.Limits.{maxRoots, suits, mapWords, stackWords, listWords}
+use Rattle.layout.specs.RefusalLaws.{by-test}
+use Rattle.layout.specs.declared.State.{State}
+use Rattle.runs.specs.LongestLaws.{clash}
+use Rattle.collector.specs.Collect.{Left, left, collectsIn, collects}
+use Rattle.collector.specs.CollectLaws.{three-fit}
+use Rattle.demands.specs.Lent.{Lent}
+use Rattle.demands.specs.Demand1.{lentRefused}
+
+-- The needed parts in front of the rest.
+abbrev pub inFront : Left → List ℕ → List ℕ → List ℕ → Left
+inFront parts map stack list = left (parts .answer) (parts .map ++ map) (parts .stack ++ stack) (parts .list ++ list)
+
+module _ (state : State) (heap roots map stack list : List ℕ) where
+  -- The test for 1.
+  abbrev allowed : Bool
+  allowed = suits state heap && leb (length roots) maxRoots
+
+  -- The test for 2.
+  abbrev long : Bool
+  long = leb (mapWords (state .words)) (length map) && leb (stackWords (state .words) (state .keep)) (length stack) && leb (listWords (state .words) (state .keep)) (length list)
+
+  -- What is lent passes the first.
+  lent-allowed : Lent state heap roots map stack list → allowed ≡ true
+  lent-allowed x = rw (x .suit, le-leb (length roots) maxRoots (x .few))
+
+  -- It passes the second.
+  lent-long : Lent state heap roots map stack list → long ≡ true
+  lent-long x =
+      let h : ℕ = state .words in
+      let t : ℕ = state .keep in
+      rw (le-leb (mapWords h) (length map) (x .map-room), le-leb (stackWords h t) (length stack) (x .stack-room), le-leb (listWords h t) (length list) (x .list-room))
+
+  -- What passes both is lent.
+  lent-both : allowed ≡ true → long ≡ true → Lent state heap roots map stack list
+  lent-both ok enough =
+      let x = and-eq-true-iff (suits state heap) _ .0 ok in
+      let y = three-fit map stack list enough in
+      record { suit = x .0; few = leb-true (length roots) maxRoots (x .1); map-room = y .0; stack-room = y .1; list-room = y .2 }
+
+  -- What holds of a collection in the needed parts, and of a refusal with 1 or 2, holds of every collection.
+  pub lent-cases : (P : Left → Type 0)
+      → (Lent state heap roots map stack list → P (inFront (collectsIn heap (state .keep) roots) (drop (mapWords (state .words)) map) (drop (stackWords (state .words) (state .keep)) stack) (drop (listWords (state .words) (state .keep)) list)))
+      → ((n : ℕ) → ¬ Lent state heap roots map stack list → List·Memᴰ n (1 ∷ 2 ∷ []) → P (lentRefused state map stack list n))
+      → P (collects state heap roots map stack list)
+  unfolding collects
+  lent-cases P given refuse =
+      by-test P allowed (λ ok. by-test P long (λ enough. given (lent-both ok enough))
+      (λ short. refuse 2 (λ x. clash (lent-long x) short) (List·Memᴰ·tail (List·Memᴰ·head refl))))
+      (λ out. refuse 1 (λ x. clash (lent-allowed x) out) (List·Memᴰ·head refl))

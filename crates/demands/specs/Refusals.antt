@@ -1,0 +1,101 @@
+-- Demand 1 for set-up, survey, read and write: how each refuses, and what it keeps of the buffers.
+use Prim.Native.Nat.{ℕ, _-_, _*_, _≤_}
+use mathlib.Core.Path.{_≡_, refl}
+use mathlib.Core.Bool.{Bool, _&&_}
+use mathlib.Core.List.{List, [], _∷_}
+use lib.ListN.{length, take, replicate, length-set}
+use lib.Dec.{leb, ltb, eqb}
+use Rattle.words.specs.Header.{sizeAt, wellFormed}
+use Rattle.words.specs.Map.{isStart}
+use Rattle.layout.specs.Intervals.{shown}
+use Rattle.layout.specs.Limits.{within, suits, mapWords, listWords}
+use Rattle.layout.specs.LimitsLaws.{limits}
+use Rattle.layout.specs.RefusalLaws.{by-test}
+use Rattle.layout.specs.SetUp.{Prepared, prepared, firstList, setUpRefused, setsUp}
+use Rattle.layout.specs.declared.State.{State}
+use Rattle.runs.specs.FreeListLaws.{list-first, list-fits}
+use Rattle.freelist.specs.Records.{validList}
+use Rattle.split.specs.RelistedLaws.{length-shown}
+use Rattle.store.specs.Fields.{objectCode, fieldCode, wordOf, reads, takes, Written, written, writes}
+use Rattle.store.specs.Survey.{surveyRefused, surveys}
+use Rattle.store.specs.declared.fields.Reading.{Reading}
+use Rattle.store.specs.declared.surveys.Surveyed.{Surveyed}
+use Rattle.demands.specs.Demand1.{Kept, Refuses}
+use Rattle.demands.specs.RefusesLaws.{kept-same, kept-front, kept-clear, two-fit, answers, refuses-unless, refuses-by}
+
+-- Set-up.
+module _ (heap : List ℕ) (t : ℕ) (map list : List ℕ) where
+  -- How many words the heap has.
+  abbrev h : ℕ
+  h = length heap
+
+  -- The test for 2.
+  abbrev long : Bool
+  long = leb (mapWords h) (length map) && leb (listWords h t) (length list)
+
+  -- It refuses with 1 or 2, and then the state is zeros, and map and list are as they came.
+  pub set-up-refuses : Refuses (λ (r : Prepared). r .answer .code) (λ n. prepared (setUpRefused n) map list) (1 ∷ 2 ∷ []) (setsUp heap t map list)
+  unfolding setsUp
+  set-up-refuses = refuses-unless (λ n. refl) (within h t) 1 (refuses-unless (λ n. refl) long 2 (answers refl))
+
+  -- Map and list keep their length, and their words past the needed parts.
+  abbrev SetUpKeeps : Prepared → Type 0
+  SetUpKeeps r = Kept (mapWords h) map (r .map) × Kept (listWords h t) list (r .list)
+
+  -- It keeps them so, refused or not.
+  pub set-up-keeps : SetUpKeeps (setsUp heap t map list)
+  unfolding setsUp
+  set-up-keeps =
+      by-test SetUpKeeps (within h t) (λ ok. by-test SetUpKeeps long (λ enough.
+      let x = two-fit map list enough in
+      let fits : 2 * length (firstList h t) ≤ listWords h t = rw (list-first t heap 0) at (list-fits t heap (replicate 0 0) (limits h t ok .keeps)) in
+      (kept-clear map (x .0), kept-front (shown (listWords h t) (firstList h t)) list (length-shown (listWords h t) (firstList h t) fits) (x .1)))
+      (λ short. (kept-same, kept-same))) (λ out. (kept-same, kept-same))
+
+-- Survey.
+module _ (state : State) (list : List ℕ) where
+  -- It refuses with 1, 2 or 3, and then each figure is 0.
+  pub survey-refuses : Refuses (λ (r : Surveyed). r .code) surveyRefused (1 ∷ 2 ∷ 3 ∷ []) (surveys state list)
+  unfolding surveys
+  survey-refuses =
+      let h : ℕ = state .words in
+      let t : ℕ = state .keep in
+      let n : ℕ = listWords h t in
+      refuses-unless (λ n. refl) (within h t) 1
+      (refuses-unless (λ n. refl) (leb n (length list)) 2
+      (refuses-unless (λ n. refl) (validList h t (state .count) (take n list)) 3
+      (answers refl)))
+
+-- Read and write.
+module _ (state : State) (heap map : List ℕ) (a k : ℕ) where
+  -- The number of a field is one of these, or 0.
+  field-refuses : Refuses (λ n. n) (λ n. n) (1 ∷ 2 ∷ 9 ∷ 5 ∷ 10 ∷ []) (fieldCode state heap map a k)
+  unfolding fieldCode objectCode
+  field-refuses =
+      refuses-unless (λ n. refl) (suits state heap) 1
+      (refuses-unless (λ n. refl) (leb (mapWords (state .words)) (length map)) 2
+      (refuses-unless (λ n. refl) (isStart (length heap) map a) 9
+      (refuses-unless (λ n. refl) (wellFormed heap (state .keep) a) 5
+      (refuses-unless (λ n. refl) (ltb k (sizeAt heap a - 1)) 10
+      (answers refl)))))
+
+  -- A read refuses with one of them, and then the value is 0.
+  pub read-refuses : Refuses (λ (r : Reading). r .code) (λ n. record { code = n; value = 0 }) (1 ∷ 2 ∷ 9 ∷ 5 ∷ 10 ∷ []) (reads state heap map a k)
+  unfolding reads
+  read-refuses = refuses-by (λ n. refl) field-refuses (answers refl)
+
+  module _ (v : ℕ) where
+    -- A write refuses with one of them or with 11, and then the heap is as it came.
+    pub write-refuses : Refuses (λ (r : Written). r .code) (λ n. written n heap) (1 ∷ 2 ∷ 9 ∷ 5 ∷ 10 ∷ 11 ∷ []) (writes state heap map a k v)
+    unfolding writes
+    write-refuses = refuses-by (λ n. refl) field-refuses (refuses-unless (λ n. refl) (takes heap map a k v) 11 (answers refl))
+
+    -- The heap keeps its length.
+    abbrev WriteKeeps : Written → Type 0
+    WriteKeeps r = length (r .heap) ≡ length heap
+
+    -- It keeps it so, refused or not.
+    pub write-keeps : WriteKeeps (writes state heap map a k v)
+    unfolding writes
+    write-keeps =
+        by-test WriteKeeps (eqb (fieldCode state heap map a k) 0) (λ none. by-test WriteKeeps (takes heap map a k v) (λ taken. length-set heap (wordOf a k) v) (λ not-taken. refl)) (λ some. refl)
