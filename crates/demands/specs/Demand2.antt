@@ -6,7 +6,7 @@ use mathlib.Core.Bool.{Bool, true, cond}
 use mathlib.Core.List.{List}
 use lib.ListN.{length, take}
 use Rattle.words.specs.Header.{sizeAt, fieldsOf}
-use Rattle.words.specs.Map.{bitAt, isStart}
+use Rattle.words.specs.Map.{bitAt, isStart, covered}
 use Rattle.layout.specs.Intervals.{shown}
 use Rattle.layout.specs.Limits.{mapWords, listWords}
 use Rattle.layout.specs.declared.Interval.{Interval}
@@ -46,15 +46,29 @@ pub record Peak (heap : List ℕ) (t : ℕ) (roots : List ℕ) (peak : ℕ) : Ty
   pub seen : (n : ℕ) × (m : Marking) × Moment heap t roots n m × (intervals heap t m ≡ peak)
   pub most : (n : ℕ) (m : Marking) → Moment heap t roots n m → intervals heap t m ≤ peak
 
+-- The intervals of the list, as its words and its count give them.
+abbrev pub listOf : Collected → List ℕ → List Interval
+listOf answer list = records (answer .state .count) list
+
 -- What a collection that succeeds answers, and what it leaves in map and list.
 pub record Finds (heap : List ℕ) (t : ℕ) (roots : List ℕ) (answer : Collected) (map list : List ℕ) : Type 0 where
+  -- Just the addresses that are reached are starts on the map.
   pub starts : Tells (isStart (length heap) map) (Reach heap roots)
+  -- No other bit of its needed words is set.
   pub bits : Tells (bitAt (take (mapWords (length heap)) map)) (Reach heap roots)
-  pub longest : (i : Interval) → Member (records (answer .state .count) list) i ↔ Longest t (Live heap roots) 1 (length heap) i
-  pub ordered : Ordered t 1 (length heap) 1 (records (answer .state .count) list)
-  pub swept : (live : ℕ → Bool) → Tells live (Live heap roots) → records (answer .state .count) list ≡ runs t (length heap) live
-  pub zeros : take (listWords (length heap) t) list ≡ shown (listWords (length heap) t) (records (answer .state .count) list)
+  -- Just the words of objects that are reached lie in objects on the map.
+  pub covers : Tells (covered heap map) (Live heap roots)
+  -- The list has just the longest runs of words outside them that have t words or more.
+  pub longest : (i : Interval) → Member (listOf answer list) i ↔ Longest t (Live heap roots) 1 (length heap) i
+  -- It goes by address.
+  pub ordered : Ordered t 1 (length heap) 1 (listOf answer list)
+  -- It is what mark-sweep's sweep gives, by any test for those words.
+  pub swept : (live : ℕ → Bool) → Tells live (Live heap roots) → listOf answer list ≡ runs t (length heap) live
+  -- The records behind it are zero.
+  pub zeros : take (listWords (length heap) t) list ≡ shown (listWords (length heap) t) (listOf answer list)
+  -- The counts are sums over what is reached, by any test for it, and the roots.
   pub sums : (reached : ℕ → Bool) → Tells reached (Reach heap roots) → Sums heap roots reached answer
+  -- The peak is the greatest number of intervals that were listed at once.
   pub peak : Peak heap t roots (answer .peak)
 
 -- Demand 2: a collection succeeds exactly when all that is reached is sound; it has then found what it should, and a refusal names a reference that is at fault.

@@ -5,7 +5,7 @@ use mathlib.Core.List.{List, [], _++_, append-assoc}
 use lib.ListN.{length, take, replicate}
 use lib.Seq.{take-at}
 use Rattle.words.specs.Map.{bitAt, isStart}
-use Rattle.words.specs.MapLaws.{bit-take, start, is-start}
+use Rattle.words.specs.MapLaws.{bit-take}
 use Rattle.layout.specs.Intervals.{flat, shown}
 use Rattle.layout.specs.Limits.{mapWords, listWords}
 use Rattle.layout.specs.LimitsLaws.{bit-inside}
@@ -20,7 +20,7 @@ use Rattle.collector.specs.Collect.{settled}
 use Rattle.demands.specs.Reach.{Reach}
 use Rattle.demands.specs.Demand2.{Tells, Finds}
 use Rattle.demands.specs.Tracks.{Tracks}
-use Rattle.demands.specs.SettledLaws.{bits-tell, reach-inside, list-longest, list-swept, objects-sum, live-sum, references-sum}
+use Rattle.demands.specs.SettledLaws.{covered-tells, bits-tell, starts-tell, list-longest, list-swept, objects-sum, live-sum, references-sum}
 use Rattle.demands.specs.PeakLaws.{peak-is}
 
 -- A list shown in front of other words is read back.
@@ -29,9 +29,11 @@ unfolding shown
 records-front n l rest = ap (records (length l)) (append-assoc (flat l) (replicate (n - 2 * length l) 0) rest) ∙ flat-records l (replicate (n - 2 * length l) 0 ++ rest)
 
 module _ {heap : List ℕ} {t : ℕ} {roots : List ℕ} {m : Marking} (keeps : 1 ≤ t) (g : Tracks heap t roots [] m) where
+  -- The free list.
   free : List Interval
   free = freeList t heap (m .map)
 
+  -- How many words are needed for it.
   needed : ℕ
   needed = listWords (length heap) t
 
@@ -40,16 +42,11 @@ module _ {heap : List ℕ} {t : ℕ} {roots : List ℕ} {m : Marking} (keeps : 1
     map-part : take (mapWords (length heap)) (m .map ++ past) ≡ m .map
     map-part = take-at (m .map) past (mapWords (length heap)) (g .marked .sized)
 
+    -- The bits of the heap's words are those of that part.
     bit-whole : (a : ℕ) → a < length heap → bitAt (m .map ++ past) a ≡ bitAt (m .map) a
     bit-whole a l = sym (bit-take (mapWords (length heap)) (m .map ++ past) a (bit-inside (length heap) a l)) ∙ ap (λ (k : List ℕ). bitAt k a) map-part
 
-    -- Just the addresses that are reached are starts on the map.
-    starts-tell : Tells (isStart (length heap) (m .map ++ past)) (Reach heap roots)
-    starts-tell a = (
-      λ e. let s = start (length heap) (m .map ++ past) a e in bits-tell g a .0 (sym (bit-whole a (s .inside)) ∙ s .bit),
-      λ p. let x = reach-inside g p in is-start (length heap) (m .map ++ past) a (record { some = x .0; inside = x .1; bit = bit-whole a (x .1) ∙ bits-tell g a .1 p }),
-    )
-
+    -- The needed part of the list.
     list-part : take needed (shown needed free ++ past) ≡ shown needed free
     unfolding free needed
     list-part = take-at (shown needed free) past needed (length-shown needed free (list-fits t heap (m .map) keeps))
@@ -59,9 +56,11 @@ module _ {heap : List ℕ} {t : ℕ} {roots : List ℕ} {m : Marking} (keeps : 1
   unfolding free needed
   done-finds over past-map past-list =
       let l : List ℕ = shown needed free ++ past-list in
+      let starts : Tells (isStart (length heap) (m .map ++ past-map)) (Reach heap roots) = starts-tell g (m .map ++ past-map) (bit-whole past-map) in
       let back : records (length free) l ≡ free = records-front needed free past-list in
       record {
-        starts = starts-tell past-map;
+        starts = starts;
+        covers = covered-tells (m .map ++ past-map) starts;
         bits = rw (map-part past-map) (bits-tell g);
         longest = rw back (list-longest g keeps);
         ordered = rw back (list-ordered t heap (m .map) keeps);

@@ -2,7 +2,7 @@ pub mod Reach
 pub mod Lent
 pub mod Demand1
 pub mod Demand2
-pub mod Settles
+pub mod Sameness
 pub mod World
 pub mod Examples
 pub mod Tracks
@@ -15,9 +15,9 @@ pub mod SettledLaws
 pub mod FindsLaws
 pub mod RefusesLaws
 pub mod LentLaws
-pub mod Refusals
-pub mod AllotRefusals
-pub mod CollectRefusals
+pub mod Demand1Holds
+pub mod Demand1AllotHolds
+pub mod Demand1CollectHolds
 pub mod Demand2Holds
-pub mod Outcomes
+pub mod SamenessHolds
 pub mod ExamplesHold

@@ -57,13 +57,14 @@ module _ (heap : List ℕ) (t : ℕ) where
   AtLeast p (done m) = p ≤ m .peak
   AtLeast p (refused c r) = Unit
 
-  -- Moves do not lower it.
+  -- One move does not lower it.
   shift-least : {p : ℕ} {map : List ℕ} {peak : ℕ} {o : Outcome} → p ≤ peak → Shift map peak o → AtLeast p o
   shift-least l (stays e f) = omega arith
   shift-least l (splits e) = omega arith
   shift-least l (ends e f) = omega arith
   shift-least l stops = tt
 
+  -- Any number of moves does not.
   run-least : (n p : ℕ) (o : Outcome) → AtLeast p o → AtLeast p (run n heap t o)
   unfolding run
   run-least zero p o l = l
@@ -81,6 +82,7 @@ module _ (heap : List ℕ) (t : ℕ) where
       now : intervals heap t m ≤ m .peak
       seen : (n : ℕ) × (k : Marking) × Moment heap t roots n k × (intervals heap t k ≡ m .peak)
 
+    -- The same of an outcome.
     abbrev Topped : Outcome → Type 0
     Topped (going m) = Tops m
     Topped (done m) = Tops m

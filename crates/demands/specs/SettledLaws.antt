@@ -1,6 +1,6 @@
 -- What a collection that is done has found.
 use Prim.Native.Nat.{ℕ, _+_, _≤_, _<_}
-use mathlib.Core.Path.{_≡_, refl, _∙_}
+use mathlib.Core.Path.{_≡_, refl, sym, _∙_}
 use mathlib.Core.Logic.{_≢_, _↔_, Iff·symm}
 use mathlib.Core.Bool.{Bool, true, false}
 use mathlib.Core.List.{List, [], List·Memᴰ·not-nil}
@@ -8,7 +8,7 @@ use native.Mathlib.Omega.{arith}
 use lib.ListN.{length}
 use Rattle.words.specs.Header.{sizeAt, fieldsOf}
 use Rattle.words.specs.HeaderLaws.{Formed, formed}
-use Rattle.words.specs.Map.{bitAt, covered}
+use Rattle.words.specs.Map.{bitAt, isStart, covered}
 use Rattle.words.specs.MapLaws.{start, is-start}
 use Rattle.words.specs.CoverLaws.{owner-covers, covered-owner}
 use Rattle.layout.specs.declared.Interval.{Interval}
@@ -27,6 +27,13 @@ use Rattle.demands.specs.MarkedLaws.{reach-some}
 not-clear : (b : Bool) → (b ≡ false → ⊥) → b ≡ true
 not-clear true f = refl
 not-clear false f = absurd (f refl)
+
+-- Where just what is reached starts on the map, just its words are covered.
+pub covered-tells : {heap roots : List ℕ} (map : List ℕ) → Tells (isStart (length heap) map) (Reach heap roots) → Tells (covered heap map) (Live heap roots)
+covered-tells {heap} {roots} map starts w = (
+  λ e. let o = covered-owner heap map w e in (o .0, starts (o .0) .0 (o .1 .start), o .1 .low, o .1 .high),
+  λ (a, p, lo, hi). owner-covers heap map w a (record { start = starts a .1 p; low = lo; high = hi }),
+)
 
 module _ {heap : List ℕ} {t : ℕ} {roots : List ℕ} {m : Marking} (g : Tracks heap t roots [] m) where
   -- With nothing left to be read, whatever a root or an object on the map names is on the map.
@@ -53,25 +60,28 @@ module _ {heap : List ℕ} {t : ℕ} {roots : List ℕ} {m : Marking} (g : Track
       let some : a ≢ 0 = reach-some p in
       (omega arith, omega (arith, f .ends, f .fewer))
 
-  -- Just the words of objects that are reached are covered.
-  pub covered-tells : Tells (covered heap (m .map)) (Live heap roots)
-  covered-tells w = (
-    λ e. let o = covered-owner heap (m .map) w e in (o .0, g .marked .reached (o .0) (start (length heap) (m .map) (o .0) (o .1 .start) .bit), o .1 .low, o .1 .high),
-    λ (a, p, lo, hi). let x = reach-inside p in
-        owner-covers heap (m .map) w a (record { start = is-start (length heap) (m .map) a (record { some = x .0; inside = x .1; bit = all-marked p }); low = lo; high = hi }),
+  -- Just the addresses that are reached are starts, on any map that has the same bits for the heap's words.
+  pub starts-tell : (map : List ℕ) → ((a : ℕ) → a < length heap → bitAt map a ≡ bitAt (m .map) a) → Tells (isStart (length heap) map) (Reach heap roots)
+  starts-tell map same a = (
+    λ e. let s = start (length heap) map a e in g .marked .reached a (sym (same a (s .inside)) ∙ s .bit),
+    λ p. let x = reach-inside p in is-start (length heap) map a (record { some = x .0; inside = x .1; bit = same a (x .1) ∙ all-marked p }),
   )
+
+  -- Just the words of objects that are reached are covered.
+  live-covered : Tells (covered heap (m .map)) (Live heap roots)
+  live-covered = covered-tells (m .map) (starts-tell (m .map) (λ a l. refl))
 
   -- The list has just the longest runs outside what is reached.
   pub list-longest : 1 ≤ t → (i : Interval) → Member (freeList t heap (m .map)) i ↔ Longest t (Live heap roots) 1 (length heap) i
   unfolding freeList
   list-longest keeps i =
       let x = runs-longest t (length heap) (covered heap (m .map)) i keeps in
-      (λ y. longest-same covered-tells (x .0 y), λ y. x .1 (longest-same (λ w. Iff·symm (covered-tells w)) y))
+      (λ y. longest-same live-covered (x .0 y), λ y. x .1 (longest-same (λ w. Iff·symm (live-covered w)) y))
 
   -- It is what the sweep gives, by any test that tells the words of objects that are reached.
   pub list-swept : (live : ℕ → Bool) → Tells live (Live heap roots) → freeList t heap (m .map) ≡ runs t (length heap) live
   unfolding freeList
-  list-swept live tells = runs-agree t (length heap) live (covered heap (m .map)) (λ w lo hi. tells-same covered-tells tells w)
+  list-swept live tells = runs-agree t (length heap) live (covered heap (m .map)) (λ w lo hi. tells-same live-covered tells w)
 
   -- The counts are sums over what is reached, by any test that tells it, and the roots.
   module _ {reached : ℕ → Bool} (tells : Tells reached (Reach heap roots)) where

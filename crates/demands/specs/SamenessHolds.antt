@@ -15,7 +15,7 @@ use Rattle.store.specs.Survey.{surveys}
 use Rattle.demands.specs.Lent.{Lent}
 use Rattle.demands.specs.Demand2.{Demand2}
 use Rattle.demands.specs.Demand2Holds.{demand-2}
-use Rattle.demands.specs.Settles.{Contract, Settles, Loan, roomsContract, hxMapContract, hxStackContract, hxListContract, setUpContract, setUpEnd, collectContract, collectEnd, allotContract, readContract, readEnd, writeContract, writeEnd, surveyContract, surveyEnd}
+use Rattle.demands.specs.Sameness.{Contract, Settles, Loan, roomsContract, hxMapContract, hxStackContract, hxListContract, setUpContract, setUpEnd, collectContract, collectEnd, allotContract, readContract, readEnd, writeContract, writeEnd, surveyContract, surveyEnd}
 
 -- Two outcomes that are equal to a third are equal.
 settled : {A : Type 0} {contract : Contract A} {outcome : A} → contract .asks → ((x : A) → contract .allows x ↔ (x ≡ outcome)) → Settles contract outcome
