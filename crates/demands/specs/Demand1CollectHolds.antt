@@ -20,7 +20,7 @@ use Rattle.demands.specs.Lent.{Lent}
 use Rattle.demands.specs.Demand1.{lentRefused, markingRefused, CollectEnds}
 use Rattle.demands.specs.Tracks.{Told}
 use Rattle.demands.specs.TracksLaws.{collection-told}
-use Rattle.demands.specs.FaultLaws.{fault-number, fault-above}
+use Rattle.demands.specs.ReachLaws.{fault-number, fault-above}
 use Rattle.demands.specs.RefusesLaws.{kept-same, kept-front, kept-clear, answers, refusal}
 use Rattle.demands.specs.LentLaws.{inFront, lent-cases}
 

@@ -13,7 +13,7 @@ use Rattle.demands.specs.Lent.{Lent}
 use Rattle.demands.specs.Demand2.{Demand2}
 use Rattle.demands.specs.Tracks.{Told}
 use Rattle.demands.specs.TracksLaws.{collection-told}
-use Rattle.demands.specs.FaultLaws.{unsound, fault-above}
+use Rattle.demands.specs.ReachLaws.{unsound, fault-above}
 use Rattle.demands.specs.SettledLaws.{settled-sound}
 use Rattle.demands.specs.FindsLaws.{done-finds}
 use Rattle.demands.specs.LentLaws.{inFront, lent-cases}

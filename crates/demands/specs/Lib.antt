@@ -6,12 +6,12 @@ pub mod Sameness
 pub mod World
 pub mod Examples
 pub mod Tracks
+pub mod ReachLaws
 pub mod TotalLaws
-pub mod FaultLaws
+pub mod SettledLaws
 pub mod MarkedLaws
 pub mod TracksLaws
 pub mod PeakLaws
-pub mod SettledLaws
 pub mod FindsLaws
 pub mod RefusesLaws
 pub mod LentLaws

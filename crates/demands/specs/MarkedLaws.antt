@@ -17,15 +17,11 @@ use Rattle.runs.specs.LongestLaws.{clash}
 use Rattle.marking.specs.Marking.{overlaps}
 use Rattle.marking.specs.Meets.{New, apart}
 use Rattle.marking.specs.MeetLaws.{overlaps-some, overlaps-none}
-use Rattle.demands.specs.Reach.{Reach, by-root, by-field, Overlap, Fault, overlap}
+use Rattle.demands.specs.Reach.{Reach, by-field, Overlap, Fault, overlap}
 use Rattle.demands.specs.Demand2.{total}
+use Rattle.demands.specs.ReachLaws.{reach-some}
 use Rattle.demands.specs.TotalLaws.{total-more}
 use Rattle.demands.specs.Tracks.{Marked, Named, a-root, a-field, Pending, Counted}
-
--- What is reached is not empty.
-pub reach-some : {heap roots : List ℕ} {a : ℕ} → Reach heap roots a → a ≢ 0
-reach-some (by-root i some) = some
-reach-some (by-field p i some) = some
 
 module _ (heap : List ℕ) (t : ℕ) (roots : List ℕ) where
   -- A reference that is read, and names nothing new, leaves the others.

@@ -17,11 +17,11 @@ use Rattle.runs.specs.Lists.{Member, Longest}
 use Rattle.runs.specs.LongestLaws.{longest-same, runs-longest}
 use Rattle.runs.specs.CutLaws.{runs-agree}
 use Rattle.marking.specs.Marking.{Marking}
-use Rattle.demands.specs.Reach.{Reach, by-root, by-field, Live, Sound}
+use Rattle.demands.specs.Reach.{Reach, Live, Sound}
 use Rattle.demands.specs.Demand2.{Tells, total}
 use Rattle.demands.specs.TotalLaws.{tells-same, total-same}
 use Rattle.demands.specs.Tracks.{Named, a-root, a-field, Tracks}
-use Rattle.demands.specs.MarkedLaws.{reach-some}
+use Rattle.demands.specs.ReachLaws.{reach-least, reach-some}
 
 -- A bit that cannot be clear is set.
 not-clear : (b : Bool) → (b ≡ false → ⊥) → b ≡ true
@@ -42,8 +42,7 @@ module _ {heap : List ℕ} {t : ℕ} {roots : List ℕ} {m : Marking} (g : Track
 
   -- So is whatever is reached.
   all-marked : {a : ℕ} → Reach heap roots a → bitAt (m .map) a ≡ true
-  all-marked (by-root {r} i some) = no-more r (a-root i) some
-  all-marked (by-field {a} {r} p i some) = no-more r (a-field a (all-marked p) i) some
+  all-marked = reach-least (λ a. bitAt (m .map) a ≡ true) (λ r i some. no-more r (a-root i) some) (λ a r e i some. no-more r (a-field a e i) some)
 
   -- Just the objects that are reached are on the map.
   pub bits-tell : Tells (bitAt (m .map)) (Reach heap roots)
