@@ -88,7 +88,7 @@ module _ (state : State) (heap map list : List ℕ) (s p : ℕ) where
   placed-long z none (At j) e = chosen-long (chosen z s p refl none e refl)
 
   -- They have them in every case.
-  parts-long : Parts state heap map list → Long (allotsIn state heap map list s p)
+  pub parts-long : Parts state heap map list → Long (allotsIn state heap map list s p)
   unfolding allotsIn
   parts-long z = by-test Long (eqb asked 0) (λ none. placed-long z (eqb-true asked 0 none) (fitting s l) refl) (λ some. (refl, refl, refl))
 

@@ -1,5 +1,5 @@
 -- Demand 1 for set-up, survey, read and write: how each refuses, and what it keeps of the buffers.
-use Prim.Native.Nat.{ℕ, _-_, _*_, _≤_}
+use Prim.Native.Nat.{ℕ, _-_, _≤_}
 use mathlib.Core.Path.{_≡_, refl}
 use mathlib.Core.Bool.{Bool, _&&_}
 use mathlib.Core.List.{List, [], _∷_}
@@ -22,6 +22,11 @@ use Rattle.store.specs.declared.fields.Reading.{Reading}
 use Rattle.store.specs.declared.surveys.Surveyed.{Surveyed}
 use Rattle.demands.specs.Demand1.{Kept, Refuses}
 use Rattle.demands.specs.RefusesLaws.{kept-same, kept-front, kept-clear, two-fit, answers, refuses-unless, refuses-by}
+
+-- Set-up's list, shown with zeros behind it, fills its needed part.
+pub first-long : (heap : List ℕ) (t : ℕ) → 1 ≤ t → let n : ℕ = listWords (length heap) t in length (shown n (firstList (length heap) t)) ≡ n
+first-long heap t keeps =
+    length-shown (listWords (length heap) t) (firstList (length heap) t) (rw (list-first t heap 0) at (list-fits t heap (replicate 0 0) keeps))
 
 -- Set-up.
 module _ (heap : List ℕ) (t : ℕ) (map list : List ℕ) where
@@ -48,8 +53,7 @@ module _ (heap : List ℕ) (t : ℕ) (map list : List ℕ) where
   set-up-keeps =
       by-test SetUpKeeps (within h t) (λ ok. by-test SetUpKeeps long (λ enough.
       let x = two-fit map list enough in
-      let fits : 2 * length (firstList h t) ≤ listWords h t = rw (list-first t heap 0) at (list-fits t heap (replicate 0 0) (limits h t ok .keeps)) in
-      (kept-clear map (x .0), kept-front (shown (listWords h t) (firstList h t)) list (length-shown (listWords h t) (firstList h t) fits) (x .1)))
+      (kept-clear map (x .0), kept-front (shown (listWords h t) (firstList h t)) list (first-long heap t (limits h t ok .keeps)) (x .1)))
       (λ short. (kept-same, kept-same))) (λ out. (kept-same, kept-same))
 
 -- Survey.

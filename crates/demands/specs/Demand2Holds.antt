@@ -16,7 +16,7 @@ use Rattle.demands.specs.TracksLaws.{collection-told}
 use Rattle.demands.specs.ReachLaws.{unsound, fault-above}
 use Rattle.demands.specs.SettledLaws.{settled-sound}
 use Rattle.demands.specs.FindsLaws.{done-finds}
-use Rattle.demands.specs.LentLaws.{inFront, lent-cases}
+use Rattle.demands.specs.LentLaws.{inFront, lent-parts}
 
 -- It holds of a collection in the needed parts, whatever stands behind them.
 parts-demand-2 : (heap : List ℕ) (t : ℕ) (roots : List ℕ) → 1 ≤ t → (map stack list : List ℕ) → Demand2 heap t roots (inFront (collectsIn heap t roots) map stack list)
@@ -32,7 +32,5 @@ parts-demand-2 heap t roots keeps map stack list = go (collection heap t roots) 
 
 -- It holds within the limits.
 pub demand-2 : (state : State) (heap roots map stack list : List ℕ) → Lent state heap roots map stack list → Demand2 heap (state .keep) roots (collects state heap roots map stack list)
-demand-2 state heap roots map stack list =
-    lent-cases state heap roots map stack list (λ out. Lent state heap roots map stack list → Demand2 heap (state .keep) roots out)
-    (λ lent _. parts-demand-2 heap (state .keep) roots (suits-limits state heap (lent .suit) .0 .keeps) _ _ _)
-    (λ n none m lent. absurd (none lent))
+demand-2 state heap roots map stack list lent =
+    rw (lent-parts state heap roots map stack list lent) (parts-demand-2 heap (state .keep) roots (suits-limits state heap (lent .suit) .0 .keeps) _ _ _)

@@ -20,6 +20,13 @@ abbrev pub inFront : Left → List ℕ → List ℕ → List ℕ → Left
 inFront parts map stack list = left (parts .answer) (parts .map ++ map) (parts .stack ++ stack) (parts .list ++ list)
 
 module _ (state : State) (heap roots map stack list : List ℕ) where
+  -- A collection in the needed parts.
+  abbrev pub inParts : Left
+  inParts =
+      let h : ℕ = state .words in
+      let t : ℕ = state .keep in
+      inFront (collectsIn heap t roots) (drop (mapWords h) map) (drop (stackWords h t) stack) (drop (listWords h t) list)
+
   -- The test for 1.
   abbrev allowed : Bool
   allowed = suits state heap && leb (length roots) maxRoots
@@ -47,8 +54,7 @@ module _ (state : State) (heap roots map stack list : List ℕ) where
       record { suit = x .0; few = leb-true (length roots) maxRoots (x .1); map-room = y .0; stack-room = y .1; list-room = y .2 }
 
   -- What holds of a collection in the needed parts, and of a refusal with 1 or 2, holds of every collection.
-  pub lent-cases : (P : Left → Type 0)
-      → (Lent state heap roots map stack list → P (inFront (collectsIn heap (state .keep) roots) (drop (mapWords (state .words)) map) (drop (stackWords (state .words) (state .keep)) stack) (drop (listWords (state .words) (state .keep)) list)))
+  pub lent-cases : (P : Left → Type 0) → (Lent state heap roots map stack list → P inParts)
       → ((n : ℕ) → ¬ Lent state heap roots map stack list → List·Memᴰ n (1 ∷ 2 ∷ []) → P (lentRefused state map stack list n))
       → P (collects state heap roots map stack list)
   unfolding collects
@@ -56,3 +62,7 @@ module _ (state : State) (heap roots map stack list : List ℕ) where
       by-test P allowed (λ ok. by-test P long (λ enough. given (lent-both ok enough))
       (λ short. refuse 2 (λ x. clash (lent-long x) short) (List·Memᴰ·tail (List·Memᴰ·head refl))))
       (λ out. refuse 1 (λ x. clash (lent-allowed x) out) (List·Memᴰ·head refl))
+
+  -- Within the limits it is the one in the needed parts.
+  pub lent-parts : Lent state heap roots map stack list → collects state heap roots map stack list ≡ inParts
+  lent-parts = lent-cases (λ out. Lent state heap roots map stack list → out ≡ inParts) (λ _ _. refl) (λ n none m lent. absurd (none lent))

@@ -3,6 +3,7 @@ pub mod Lent
 pub mod Demand1
 pub mod Demand2
 pub mod Sameness
+pub mod Unread
 pub mod World
 pub mod Examples
 pub mod Tracks
@@ -20,4 +21,5 @@ pub mod Demand1AllotHolds
 pub mod Demand1CollectHolds
 pub mod Demand2Holds
 pub mod SamenessHolds
+pub mod UnreadHolds
 pub mod ExamplesHold
