@@ -6,7 +6,13 @@ use mathlib.Core.List.{List, [], _∷_, _++_, List·Memᴰ}
 use lib.ListN.{length, drop, replicate}
 use Rattle.layout.specs.Limits.{mapWords, stackWords, listWords}
 use Rattle.layout.specs.declared.State.{State}
+use Rattle.layout.specs.SetUp.{Prepared, prepared, setUpRefused}
 use Rattle.collector.specs.Collect.{Left, left, collectRefused}
+use Rattle.store.specs.Allot.{Allotment, allotment, allotRefused}
+use Rattle.store.specs.Fields.{Written, written}
+use Rattle.store.specs.Survey.{surveyRefused}
+use Rattle.store.specs.declared.fields.Reading.{Reading}
+use Rattle.store.specs.declared.surveys.Surveyed.{Surveyed}
 use Rattle.demands.specs.Lent.{Lent}
 
 -- A buffer keeps its length, and its words past the first n.
@@ -27,6 +33,38 @@ pub record Refused {A : Type 0} (code : A → ℕ) (refuse : ℕ → A) (numbers
 abbrev pub Refuses : {A : Type 0} → (A → ℕ) → (ℕ → A) → List ℕ → A → Type 0
 Refuses code refuse numbers outcome = code outcome ≢ 0 → Refused code refuse numbers outcome
 
+-- How set-up ends.
+pub record SetUpEnds (heap : List ℕ) (t : ℕ) (map list : List ℕ) (r : Prepared) : Type 0 where
+  -- It answers, or it refuses with 1 or 2 and a state of zeros, and map and list are as they came.
+  pub refuses : Refuses (λ (x : Prepared). x .answer .code) (λ n. prepared (setUpRefused n) map list) (1 ∷ 2 ∷ []) r
+  -- Map and list keep their length, and their words past the needed parts.
+  pub keeps-map : Kept (mapWords (length heap)) map (r .map)
+  pub keeps-list : Kept (listWords (length heap) t) list (r .list)
+
+-- How an allot ends.
+pub record AllotEnds (state : State) (heap map list : List ℕ) (r : Allotment) : Type 0 where
+  -- It answers, or it refuses with one of these numbers, and state, heap, map and list are as they came.
+  pub refuses : Refuses (λ (x : Allotment). x .answer .code) (λ n. allotment (allotRefused n state) heap map list) (1 ∷ 2 ∷ 3 ∷ 7 ∷ 8 ∷ []) r
+  -- The heap keeps its length, and map and list theirs and their words past the needed parts.
+  pub keeps-heap : length (r .heap) ≡ length heap
+  pub keeps-map : Kept (mapWords (state .words)) map (r .map)
+  pub keeps-list : Kept (listWords (state .words) (state .keep)) list (r .list)
+
+-- A read ends with an answer, or with one of these numbers and the value 0.
+abbrev pub ReadEnds : Reading → Type 0
+ReadEnds r = Refuses (λ (x : Reading). x .code) (λ n. record { code = n; value = 0 }) (1 ∷ 2 ∷ 9 ∷ 5 ∷ 10 ∷ []) r
+
+-- How a write ends.
+pub record WriteEnds (heap : List ℕ) (r : Written) : Type 0 where
+  -- It stores the value, or it refuses with one of these numbers, and the heap is as it came.
+  pub refuses : Refuses (λ (x : Written). x .code) (λ n. written n heap) (1 ∷ 2 ∷ 9 ∷ 5 ∷ 10 ∷ 11 ∷ []) r
+  -- The heap keeps its length.
+  pub keeps-heap : length (r .heap) ≡ length heap
+
+-- A survey ends with an answer, or with one of these numbers and 0 for each figure.
+abbrev pub SurveyEnds : Surveyed → Type 0
+SurveyEnds r = Refuses (λ (x : Surveyed). x .code) surveyRefused (1 ∷ 2 ∷ 3 ∷ []) r
+
 -- The number of a collection's outcome.
 abbrev pub codeOf : Left → ℕ
 codeOf r = r .answer .code
@@ -43,13 +81,19 @@ module _ (state : State) (map stack list : List ℕ) where
       let t : ℕ = state .keep in
       left (collectRefused n place (record { words = h; keep = t; count = 0 })) (frontCleared (mapWords h) map) (frontCleared (stackWords h t) stack) (frontCleared (listWords h t) list)
 
--- What is lent tells whether 1 or 2 is given, the other refusals are those of marking, a success names no reference, and the buffers are kept past their needed parts.
+-- How a collection ends.
 pub record CollectEnds (state : State) (heap roots map stack list : List ℕ) (r : Left) : Type 0 where
+  -- It is refused with 1 or 2 if and only if what is lent is out of the limits, or too short.
   pub lent : Lent state heap roots map stack list ↔ (codeOf r ≢ 1) × (codeOf r ≢ 2)
+  -- Then state, map, stack and list are as they came.
   pub unlent : ¬ Lent state heap roots map stack list → Refused codeOf (lentRefused state map stack list) (1 ∷ 2 ∷ []) r
+  -- Else it succeeds, or it is refused with 4, 5 or 6, and the needed parts are clear.
   pub fails : Lent state heap roots map stack list → Refuses codeOf (markingRefused state map stack list (r .answer .place)) (4 ∷ 5 ∷ 6 ∷ []) r
+  -- So it has one of these numbers, or 0.
   pub numbers : codeOf r ≢ 0 → List·Memᴰ (codeOf r) (1 ∷ 2 ∷ 4 ∷ 5 ∷ 6 ∷ [])
+  -- A success names no reference.
   pub succeeds : codeOf r ≡ 0 → r .answer .place ≡ 0
+  -- Map, stack and list keep their length, and their words past the needed parts.
   pub keeps-map : Kept (mapWords (state .words)) map (r .map)
   pub keeps-stack : Kept (stackWords (state .words) (state .keep)) stack (r .stack)
   pub keeps-list : Kept (listWords (state .words) (state .keep)) list (r .list)

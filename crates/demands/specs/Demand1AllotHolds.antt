@@ -1,4 +1,4 @@
--- Demand 1 for allot: how it refuses, and what it keeps of the buffers.
+-- Demand 1 holds of allot.
 use Prim.Native.Nat.{ℕ, _+_, _-_, _*_, _≤_, _<_}
 use mathlib.Core.Path.{_≡_, refl, ap, _∙_}
 use mathlib.Core.Bool.{Bool, _&&_}
@@ -23,7 +23,7 @@ use Rattle.split.specs.SidesLaws.{in-place, in-read, front-sides, front-fits}
 use Rattle.store.specs.Allot.{Allotment, allotment, allotRefused, askable, askedCode, placed, allotsIn, allots, Parts}
 use Rattle.store.specs.AllotLaws.{Chosen, chosen, ends}
 use Rattle.store.specs.ObjectLaws.{length-laid}
-use Rattle.demands.specs.Demand1.{Kept, Refuses}
+use Rattle.demands.specs.Demand1.{Kept, Refuses, AllotEnds}
 use Rattle.demands.specs.RefusesLaws.{kept-same, kept-front, two-fit, answers, refusal, refuses-unless, refuses-by}
 
 -- The number of an allot's outcome.
@@ -110,19 +110,19 @@ module _ (state : State) (heap map list : List ℕ) (s p : ℕ) where
   abbrev joined : Allotment → Allotment
   joined x = allotment (x .answer) (x .heap) (x .map ++ drop m map) (x .list ++ drop n list)
 
-  -- It refuses with 1, 2, 3, 7 or 8, and then state, heap, map and list are as they came.
-  pub allot-refuses : Refuses codeOf (refuse state heap map list) (1 ∷ 2 ∷ 3 ∷ 7 ∷ 8 ∷ []) (allots state heap map list s p)
+  -- It refuses with one of its numbers, and then state, heap, map and list are as they came.
+  allot-refuses : Refuses codeOf (refuse state heap map list) (1 ∷ 2 ∷ 3 ∷ 7 ∷ 8 ∷ []) (allots state heap map list s p)
   unfolding allots
   allot-refuses = refuses-unless (λ n. refl) (suits state heap) 1 (refuses-unless (λ n. refl) long 2 λ some.
       let x = parts-refuse state heap (take m map) (take n list) s p some in
       record { number = x .number; whole = ap joined (x .whole) ∙ rw (take-append-drop m map, take-append-drop n list) refl })
 
-  -- The heap keeps its length, and map and list keep theirs and their words past the needed parts.
+  -- What is kept of heap, map and list.
   abbrev AllotKeeps : Allotment → Type 0
   AllotKeeps r = (length (r .heap) ≡ length heap) × Kept m map (r .map) × Kept n list (r .list)
 
-  -- It keeps them so, refused or not.
-  pub allot-keeps : AllotKeeps (allots state heap map list s p)
+  -- It is kept, refused or not.
+  allot-keeps : AllotKeeps (allots state heap map list s p)
   unfolding allots
   allot-keeps =
       by-test AllotKeeps (suits state heap) (λ ok. by-test AllotKeeps long (λ enough.
@@ -133,3 +133,7 @@ module _ (state : State) (heap map list : List ℕ) (s p : ℕ) where
       let y = parts-long state heap (take m map) (take n list) s p (record { suit = ok; map-size = map-size; list-size = list-size }) in
       (y .0, kept-front (parts .map) map (y .1 ∙ map-size) (x .0), kept-front (parts .list) list (y .2 ∙ list-size) (x .1)))
       (λ short. (refl, kept-same, kept-same))) (λ out. (refl, kept-same, kept-same))
+
+  -- Every allot ends as demand 1 says.
+  pub allot-ends : AllotEnds state heap map list (allots state heap map list s p)
+  allot-ends = record { refuses = allot-refuses; keeps-heap = allot-keeps .0; keeps-map = allot-keeps .1; keeps-list = allot-keeps .2 }

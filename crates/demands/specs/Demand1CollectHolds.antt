@@ -1,4 +1,4 @@
--- Demand 1 for collect: how it ends.
+-- Demand 1 holds of collect.
 use Prim.Native.Nat.{ℕ, _*_, _≤_}
 use mathlib.Core.Path.{_≡_, refl}
 use mathlib.Core.Logic.{_≢_}
@@ -103,7 +103,7 @@ module _ (state : State) (heap roots map stack list : List ℕ) where
     ends-by (done m) g = ends-settled m (g .marked .sized)
     ends-by (refused c r) f = rw same (ends-failed f)
 
-  -- Every collection ends so.
+  -- Every collection ends as demand 1 says.
   pub collect-ends : CollectEnds state heap roots map stack list (collects state heap roots map stack list)
   unfolding collectsIn
   collect-ends = lent-cases state heap roots map stack list Ends (λ given. ends-by given (collection heap t roots) (collection-told heap t roots)) (λ n. ends-unlent)

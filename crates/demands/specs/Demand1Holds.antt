@@ -1,4 +1,4 @@
--- Demand 1 for set-up, survey, read and write: how each refuses, and what it keeps of the buffers.
+-- Demand 1 holds of set-up, survey, read and write.
 use Prim.Native.Nat.{ℕ, _-_, _≤_}
 use mathlib.Core.Path.{_≡_, refl}
 use mathlib.Core.Bool.{Bool, _&&_}
@@ -11,16 +11,14 @@ use Rattle.layout.specs.Intervals.{shown}
 use Rattle.layout.specs.Limits.{within, suits, mapWords, listWords}
 use Rattle.layout.specs.LimitsLaws.{limits}
 use Rattle.layout.specs.RefusalLaws.{by-test}
-use Rattle.layout.specs.SetUp.{Prepared, prepared, firstList, setUpRefused, setsUp}
+use Rattle.layout.specs.SetUp.{Prepared, firstList, setsUp}
 use Rattle.layout.specs.declared.State.{State}
 use Rattle.runs.specs.FreeListLaws.{list-first, list-fits}
 use Rattle.freelist.specs.Records.{validList}
 use Rattle.split.specs.RelistedLaws.{length-shown}
-use Rattle.store.specs.Fields.{objectCode, fieldCode, wordOf, reads, takes, Written, written, writes}
-use Rattle.store.specs.Survey.{surveyRefused, surveys}
-use Rattle.store.specs.declared.fields.Reading.{Reading}
-use Rattle.store.specs.declared.surveys.Surveyed.{Surveyed}
-use Rattle.demands.specs.Demand1.{Kept, Refuses}
+use Rattle.store.specs.Fields.{objectCode, fieldCode, wordOf, reads, takes, Written, writes}
+use Rattle.store.specs.Survey.{surveys}
+use Rattle.demands.specs.Demand1.{Kept, Refuses, SetUpEnds, ReadEnds, WriteEnds, SurveyEnds}
 use Rattle.demands.specs.RefusesLaws.{kept-same, kept-front, kept-clear, two-fit, answers, refuses-unless, refuses-by}
 
 -- Set-up's list, shown with zeros behind it, fills its needed part.
@@ -38,17 +36,12 @@ module _ (heap : List ℕ) (t : ℕ) (map list : List ℕ) where
   abbrev long : Bool
   long = leb (mapWords h) (length map) && leb (listWords h t) (length list)
 
-  -- It refuses with 1 or 2, and then the state is zeros, and map and list are as they came.
-  pub set-up-refuses : Refuses (λ (r : Prepared). r .answer .code) (λ n. prepared (setUpRefused n) map list) (1 ∷ 2 ∷ []) (setsUp heap t map list)
-  unfolding setsUp
-  set-up-refuses = refuses-unless (λ n. refl) (within h t) 1 (refuses-unless (λ n. refl) long 2 (answers refl))
-
-  -- Map and list keep their length, and their words past the needed parts.
+  -- What is kept of map and list.
   abbrev SetUpKeeps : Prepared → Type 0
   SetUpKeeps r = Kept (mapWords h) map (r .map) × Kept (listWords h t) list (r .list)
 
-  -- It keeps them so, refused or not.
-  pub set-up-keeps : SetUpKeeps (setsUp heap t map list)
+  -- It is kept, refused or not.
+  set-up-keeps : SetUpKeeps (setsUp heap t map list)
   unfolding setsUp
   set-up-keeps =
       by-test SetUpKeeps (within h t) (λ ok. by-test SetUpKeeps long (λ enough.
@@ -56,19 +49,22 @@ module _ (heap : List ℕ) (t : ℕ) (map list : List ℕ) where
       (kept-clear map (x .0), kept-front (shown (listWords h t) (firstList h t)) list (first-long heap t (limits h t ok .keeps)) (x .1)))
       (λ short. (kept-same, kept-same))) (λ out. (kept-same, kept-same))
 
--- Survey.
-module _ (state : State) (list : List ℕ) where
-  -- It refuses with 1, 2 or 3, and then each figure is 0.
-  pub survey-refuses : Refuses (λ (r : Surveyed). r .code) surveyRefused (1 ∷ 2 ∷ 3 ∷ []) (surveys state list)
-  unfolding surveys
-  survey-refuses =
-      let h : ℕ = state .words in
-      let t : ℕ = state .keep in
-      let n : ℕ = listWords h t in
-      refuses-unless (λ n. refl) (within h t) 1
-      (refuses-unless (λ n. refl) (leb n (length list)) 2
-      (refuses-unless (λ n. refl) (validList h t (state .count) (take n list)) 3
-      (answers refl)))
+  -- Every set-up ends as demand 1 says.
+  pub set-up-ends : SetUpEnds heap t map list (setsUp heap t map list)
+  unfolding setsUp
+  set-up-ends = record { refuses = refuses-unless (λ n. refl) (within h t) 1 (refuses-unless (λ n. refl) long 2 (answers refl)); keeps-map = set-up-keeps .0; keeps-list = set-up-keeps .1 }
+
+-- Every survey ends so.
+pub survey-ends : (state : State) (list : List ℕ) → SurveyEnds (surveys state list)
+unfolding surveys
+survey-ends state list =
+    let h : ℕ = state .words in
+    let t : ℕ = state .keep in
+    let n : ℕ = listWords h t in
+    refuses-unless (λ n. refl) (within h t) 1
+    (refuses-unless (λ n. refl) (leb n (length list)) 2
+    (refuses-unless (λ n. refl) (validList h t (state .count) (take n list)) 3
+    (answers refl)))
 
 -- Read and write.
 module _ (state : State) (heap map : List ℕ) (a k : ℕ) where
@@ -83,23 +79,20 @@ module _ (state : State) (heap map : List ℕ) (a k : ℕ) where
       (refuses-unless (λ n. refl) (ltb k (sizeAt heap a - 1)) 10
       (answers refl)))))
 
-  -- A read refuses with one of them, and then the value is 0.
-  pub read-refuses : Refuses (λ (r : Reading). r .code) (λ n. record { code = n; value = 0 }) (1 ∷ 2 ∷ 9 ∷ 5 ∷ 10 ∷ []) (reads state heap map a k)
+  -- Every read ends so.
+  pub read-ends : ReadEnds (reads state heap map a k)
   unfolding reads
-  read-refuses = refuses-by (λ n. refl) field-refuses (answers refl)
+  read-ends = refuses-by (λ n. refl) field-refuses (answers refl)
 
   module _ (v : ℕ) where
-    -- A write refuses with one of them or with 11, and then the heap is as it came.
-    pub write-refuses : Refuses (λ (r : Written). r .code) (λ n. written n heap) (1 ∷ 2 ∷ 9 ∷ 5 ∷ 10 ∷ 11 ∷ []) (writes state heap map a k v)
-    unfolding writes
-    write-refuses = refuses-by (λ n. refl) field-refuses (refuses-unless (λ n. refl) (takes heap map a k v) 11 (answers refl))
+    -- The heap has its length still.
+    abbrev Long : Written → Type 0
+    Long r = length (r .heap) ≡ length heap
 
-    -- The heap keeps its length.
-    abbrev WriteKeeps : Written → Type 0
-    WriteKeeps r = length (r .heap) ≡ length heap
-
-    -- It keeps it so, refused or not.
-    pub write-keeps : WriteKeeps (writes state heap map a k v)
+    -- Every write does.
+    pub write-ends : WriteEnds heap (writes state heap map a k v)
     unfolding writes
-    write-keeps =
-        by-test WriteKeeps (eqb (fieldCode state heap map a k) 0) (λ none. by-test WriteKeeps (takes heap map a k v) (λ taken. length-set heap (wordOf a k) v) (λ not-taken. refl)) (λ some. refl)
+    write-ends = record {
+      refuses = refuses-by (λ n. refl) field-refuses (refuses-unless (λ n. refl) (takes heap map a k v) 11 (answers refl));
+      keeps-heap = by-test Long (eqb (fieldCode state heap map a k) 0) (λ none. by-test Long (takes heap map a k v) (λ taken. length-set heap (wordOf a k) v) (λ not-taken. refl)) (λ some. refl);
+    }
