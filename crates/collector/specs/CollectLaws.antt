@@ -9,7 +9,7 @@ use lib.Dec.{leb}
 use borrow.Author.Tests.{leb-true}
 use Rattle.layout.specs.Intervals.{shown}
 use Rattle.layout.specs.Limits.{maxRoots, listWords, roomsOf}
-use Rattle.layout.specs.LimitsLaws.{limits, suitsBy, Suited, suits-tells, suited}
+use Rattle.layout.specs.LimitsLaws.{limits, two-fit, suitsBy, Suited, suits-tells, suited}
 use Rattle.layout.specs.SetUp.{firstList}
 use Rattle.layout.specs.declared.Rooms.{Rooms}
 use Rattle.layout.specs.declared.State.{State}
@@ -46,9 +46,9 @@ module _ {heap : List ℕ} {t : ℕ} {roots map stack list : List ℕ} (z : Part
 -- What the test of three buffers tells.
 pub three-fit : {m a n : ℕ} (map stack list : List ℕ) → leb m (length map) && leb a (length stack) && leb n (length list) ≡ true → (m ≤ length map) × (a ≤ length stack) × (n ≤ length list)
 three-fit {m} {a} {n} map stack list e =
-    let x = and-eq-true-iff _ _ .0 e in
-    let y = and-eq-true-iff _ _ .0 (x .0) in
-    (leb-true m (length map) (y .0), leb-true a (length stack) (y .1), leb-true n (length list) (x .1))
+    let x = and-eq-true-iff (leb m (length map) && leb a (length stack)) _ .0 e in
+    let y = two-fit map stack (x .0) in
+    (y .0, y .1, leb-true n (length list) (x .1))
 
 -- The ways out of the whole call, where the room figures are worked out.
 module _ (state : State) (heap roots map stack list : List ℕ) {rooms : Rooms} (e : rooms ≡ roomsOf (state .words) (state .keep)) where

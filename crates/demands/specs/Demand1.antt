@@ -13,7 +13,7 @@ use Rattle.store.specs.Fields.{Written, written}
 use Rattle.store.specs.Survey.{surveyRefused}
 use Rattle.store.specs.declared.fields.Reading.{Reading}
 use Rattle.store.specs.declared.surveys.Surveyed.{Surveyed}
-use Rattle.demands.specs.Lent.{Lent}
+use Rattle.demands.specs.Lent.{Bounded, Lent}
 
 -- A buffer keeps its length, and its words past the first n.
 pub record Kept (n : ℕ) (before after : List ℕ) : Type 0 where
@@ -81,18 +81,27 @@ module _ (state : State) (map stack list : List ℕ) where
       let t : ℕ = state .keep in
       left (collectRefused n place (record { words = h; keep = t; count = 0 })) (frontCleared (mapWords h) map) (frontCleared (stackWords h t) stack) (frontCleared (listWords h t) list)
 
+-- A collection that succeeds names no reference, hands back the state with a count of its own, and leaves the needed part of the stack clear.
+pub record Succeeded (state : State) (stack : List ℕ) (r : Left) : Type 0 where
+  pub nowhere : r .answer .place ≡ 0
+  pub words : r .answer .state .words ≡ state .words
+  pub keep : r .answer .state .keep ≡ state .keep
+  pub stack-clear : r .stack ≡ frontCleared (stackWords (state .words) (state .keep)) stack
+
 -- How a collection ends.
 pub record CollectEnds (state : State) (heap roots map stack list : List ℕ) (r : Left) : Type 0 where
-  -- It is refused with 1 or 2 if and only if what is lent is out of the limits, or too short.
-  pub lent : Lent state heap roots map stack list ↔ (codeOf r ≢ 1) × (codeOf r ≢ 2)
-  -- Then state, map, stack and list are as they came.
+  -- It is refused with 1 exactly out of the limits.
+  pub one : (codeOf r ≡ 1) ↔ ¬ Bounded state heap roots
+  -- It is refused with 2 exactly where it is within them and a buffer is too short.
+  pub two : (codeOf r ≡ 2) ↔ Bounded state heap roots × ¬ Lent state heap roots map stack list
+  -- In both cases state, map, stack and list are as they came.
   pub unlent : ¬ Lent state heap roots map stack list → Refused codeOf (lentRefused state map stack list) (1 ∷ 2 ∷ []) r
   -- Else it succeeds, or it is refused with 4, 5 or 6, and the needed parts are clear.
   pub fails : Lent state heap roots map stack list → Refuses codeOf (markingRefused state map stack list (r .answer .place)) (4 ∷ 5 ∷ 6 ∷ []) r
   -- So it has one of these numbers, or 0.
   pub numbers : codeOf r ≢ 0 → List·Memᴰ (codeOf r) (1 ∷ 2 ∷ 4 ∷ 5 ∷ 6 ∷ [])
-  -- A success names no reference.
-  pub succeeds : codeOf r ≡ 0 → r .answer .place ≡ 0
+  -- What a success answers and leaves besides what it has found.
+  pub succeeds : codeOf r ≡ 0 → Succeeded state stack r
   -- Map, stack and list keep their length, and their words past the needed parts.
   pub keeps-map : Kept (mapWords (state .words)) map (r .map)
   pub keeps-stack : Kept (stackWords (state .words) (state .keep)) stack (r .stack)

@@ -10,6 +10,7 @@ use lib.Dec.{leb, eqb}
 use borrow.Author.Tests.{eqb-true}
 use Rattle.words.specs.MapLaws.{length-setBit}
 use Rattle.layout.specs.Limits.{suits, mapWords, listWords}
+use Rattle.layout.specs.LimitsLaws.{two-fit}
 use Rattle.layout.specs.RefusalLaws.{by-test}
 use Rattle.layout.specs.declared.Interval.{Interval}
 use Rattle.layout.specs.declared.State.{State}
@@ -24,7 +25,7 @@ use Rattle.store.specs.Allot.{Allotment, allotment, allotRefused, askable, aske
 use Rattle.store.specs.AllotLaws.{Chosen, chosen, ends}
 use Rattle.store.specs.ObjectLaws.{length-laid}
 use Rattle.demands.specs.Demand1.{Kept, Refuses, AllotEnds}
-use Rattle.demands.specs.RefusesLaws.{kept-same, kept-front, two-fit, answers, refusal, refuses-unless, refuses-by}
+use Rattle.demands.specs.RefusesLaws.{kept-same, kept-front, success, refusal, refuses-unless, refuses-by}
 
 -- The number of an allot's outcome.
 abbrev codeOf : Allotment → ℕ
@@ -50,13 +51,13 @@ module _ (state : State) (heap map list : List ℕ) (s p : ℕ) where
   asked-refuses =
       refuses-unless (λ n. refl) (validList (state .words) (state .keep) (state .count) list) 3
       (refuses-unless (λ n. refl) (askable (state .keep) s p) 7
-      (answers refl))
+      (success refl))
 
   -- Where no interval was chosen it is 8.
   placed-refuses : (f : Found) → Refuses codeOf (refuse state heap map list) (8 ∷ []) (placed state heap map list s p f)
   unfolding placed
   placed-refuses Nothing = λ some. refusal (λ n. refl) (List·Memᴰ·head refl)
-  placed-refuses (At j) = answers refl
+  placed-refuses (At j) = success refl
 
   -- So it is one of the three, or 0.
   parts-refuse : Refuses codeOf (refuse state heap map list) (3 ∷ 7 ∷ 8 ∷ []) (allotsIn state heap map list s p)

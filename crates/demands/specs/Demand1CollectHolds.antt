@@ -1,8 +1,8 @@
 -- Demand 1 holds of collect.
 use Prim.Native.Nat.{ℕ, _*_, _≤_}
 use mathlib.Core.Path.{_≡_, refl}
-use mathlib.Core.Logic.{_≢_}
-use mathlib.Core.List.{List, [], _∷_, List·Memᴰ, List·Memᴰ·head, List·Memᴰ·tail, List·Memᴰ·eq-of-singleton, Memᴰ·append-left, Memᴰ·append-right}
+use mathlib.Core.Logic.{_≢_, _↔_}
+use mathlib.Core.List.{List, [], _∷_, List·Memᴰ, List·Memᴰ·head, List·Memᴰ·tail, Memᴰ·append-left, Memᴰ·append-right}
 use native.Mathlib.Omega.{arith}
 use lib.ListN.{length, drop}
 use Rattle.layout.specs.Intervals.{shown}
@@ -16,18 +16,13 @@ use Rattle.split.specs.RelistedLaws.{length-shown}
 use Rattle.marking.specs.Marking.{Marking, Outcome, going, done, refused, collection}
 use Rattle.collector.specs.Collect.{Left, settled, settles, collectsIn, collects}
 use Rattle.demands.specs.Reach.{Fault}
-use Rattle.demands.specs.Lent.{Lent}
+use Rattle.demands.specs.Lent.{Bounded, Lent}
 use Rattle.demands.specs.Demand1.{lentRefused, markingRefused, CollectEnds}
 use Rattle.demands.specs.Tracks.{Told}
 use Rattle.demands.specs.TracksLaws.{collection-told}
 use Rattle.demands.specs.ReachLaws.{fault-number, fault-above}
-use Rattle.demands.specs.RefusesLaws.{kept-same, kept-front, kept-clear, answers, refusal}
+use Rattle.demands.specs.RefusesLaws.{kept-same, kept-front, kept-clear, success, refusal}
 use Rattle.demands.specs.LentLaws.{inFront, lent-cases}
-
--- A number for what was lent is 1 or 2.
-one-or-two : {n : ℕ} → List·Memᴰ n (1 ∷ 2 ∷ []) → n ≢ 1 → ¬ (n ≢ 2)
-one-or-two (List·Memᴰ·head e) a b = a e
-one-or-two (List·Memᴰ·tail m) a b = b (List·Memᴰ·eq-of-singleton m)
 
 module _ (state : State) (heap roots map stack list : List ℕ) where
   -- How many words the heap has.
@@ -46,14 +41,15 @@ module _ (state : State) (heap roots map stack list : List ℕ) where
   abbrev Ends : Left → Type 0
   Ends = CollectEnds state heap roots map stack list
 
-  -- A collection that is refused for what was lent ends so.
-  ends-unlent : {n : ℕ} → ¬ Given → List·Memᴰ n (1 ∷ 2 ∷ []) → Ends (lentRefused state map stack list n)
-  ends-unlent none m = record {
-    lent = (λ given. absurd (none given), λ x. absurd (one-or-two m (x .0) (x .1)));
+  -- A collection that is refused for what was lent ends so, if its number is the right one.
+  ends-unlent : {n : ℕ} → ¬ Given → (n ≡ 1) ↔ ¬ Bounded state heap roots → (n ≡ 2) ↔ Bounded state heap roots × ¬ Given → List·Memᴰ n (1 ∷ 2 ∷ []) → n ≢ 0 → Ends (lentRefused state map stack list n)
+  ends-unlent none is-one is-two m some = record {
+    one = is-one;
+    two = is-two;
     unlent = λ e. refusal (λ n. refl) m;
     fails = λ given. absurd (none given);
-    numbers = λ some. Memᴰ·append-left (4 ∷ 5 ∷ 6 ∷ []) m;
-    succeeds = λ z. refl;
+    numbers = λ _. Memᴰ·append-left (4 ∷ 5 ∷ 6 ∷ []) m;
+    succeeds = λ z. absurd (some z);
     keeps-map = kept-same;
     keeps-stack = kept-same;
     keeps-list = kept-same;
@@ -62,12 +58,13 @@ module _ (state : State) (heap roots map stack list : List ℕ) where
   module _ (given : Given) where
     -- The heap has the state's words.
     same : length heap ≡ h
-    same = suits-limits state heap (given .suit) .1
+    same = suits-limits state heap (given .bounded .suit) .1
 
     -- A collection that is refused while marking ends so.
     ends-failed : {n place : ℕ} → Fault heap t roots n place → Ends (markingRefused state map stack list place n)
     ends-failed f = record {
-      lent = (λ g. (λ e. omega (arith, fault-above f), λ e. omega (arith, fault-above f)), λ x. given);
+      one = (λ e. absurd (omega (arith, fault-above f)), λ out. absurd (out (given .bounded)));
+      two = (λ e. absurd (omega (arith, fault-above f)), λ x. absurd (x .1 given));
       unlent = λ none. absurd (none given);
       fails = λ g some. refusal (λ n. refl) (fault-number f);
       numbers = λ some. Memᴰ·append-right (1 ∷ 2 ∷ []) (fault-number f);
@@ -85,13 +82,14 @@ module _ (state : State) (heap roots map stack list : List ℕ) where
     ends-settled : (m : Marking) → length (m .map) ≡ mapWords (length heap) → Ends (joined (settled heap t m))
     ends-settled m long =
         let free : List Interval = freeList t heap (m .map) in
-        let fits : 2 * length free ≤ listWords h t = rw same at (list-fits t heap (m .map) (suits-limits state heap (given .suit) .0 .keeps)) in
+        let fits : 2 * length free ≤ listWords h t = rw same at (list-fits t heap (m .map) (suits-limits state heap (given .bounded .suit) .0 .keeps)) in
         rw same record {
-          lent = (λ g. (λ e. omega arith, λ e. omega arith), λ x. given);
+          one = (λ e. absurd (omega arith), λ out. absurd (out (given .bounded)));
+          two = (λ e. absurd (omega arith), λ x. absurd (x .1 given));
           unlent = λ none. absurd (none given);
-          fails = λ g. answers refl;
+          fails = λ g. success refl;
           numbers = λ some. absurd (some refl);
-          succeeds = λ z. refl;
+          succeeds = λ z. record { nowhere = refl; words = refl; keep = refl; stack-clear = refl };
           keeps-map = kept-front (m .map) map (rw same at long) (given .map-room);
           keeps-stack = kept-clear stack (given .stack-room);
           keeps-list = kept-front (shown (listWords h t) free) list (length-shown (listWords h t) free fits) (given .list-room);
@@ -106,4 +104,7 @@ module _ (state : State) (heap roots map stack list : List ℕ) where
   -- Every collection ends as demand 1 says.
   pub collect-ends : CollectEnds state heap roots map stack list (collects state heap roots map stack list)
   unfolding collectsIn
-  collect-ends = lent-cases state heap roots map stack list Ends (λ given. ends-by given (collection heap t roots) (collection-told heap t roots)) (λ n. ends-unlent)
+  collect-ends =
+      lent-cases state heap roots map stack list Ends (λ given. ends-by given (collection heap t roots) (collection-told heap t roots))
+      (λ out. ends-unlent (λ given. out (given .bounded)) (λ _. out, λ _. refl) (λ e. absurd (omega arith), λ x. absurd (out (x .0))) (List·Memᴰ·head refl) (λ e. omega arith))
+      (λ ok none. ends-unlent none (λ e. absurd (omega arith), λ out. absurd (out ok)) (λ _. (ok, none), λ _. refl) (List·Memᴰ·tail (List·Memᴰ·head refl)) (λ e. omega arith))

@@ -9,7 +9,7 @@ use Rattle.words.specs.Header.{sizeAt, wellFormed}
 use Rattle.words.specs.Map.{isStart}
 use Rattle.layout.specs.Intervals.{shown}
 use Rattle.layout.specs.Limits.{within, suits, mapWords, listWords}
-use Rattle.layout.specs.LimitsLaws.{limits}
+use Rattle.layout.specs.LimitsLaws.{limits, two-fit}
 use Rattle.layout.specs.RefusalLaws.{by-test}
 use Rattle.layout.specs.SetUp.{Prepared, firstList, setsUp}
 use Rattle.layout.specs.declared.State.{State}
@@ -19,7 +19,7 @@ use Rattle.split.specs.RelistedLaws.{length-shown}
 use Rattle.store.specs.Fields.{objectCode, fieldCode, wordOf, reads, takes, Written, writes}
 use Rattle.store.specs.Survey.{surveys}
 use Rattle.demands.specs.Demand1.{Kept, Refuses, SetUpEnds, ReadEnds, WriteEnds, SurveyEnds}
-use Rattle.demands.specs.RefusesLaws.{kept-same, kept-front, kept-clear, two-fit, answers, refuses-unless, refuses-by}
+use Rattle.demands.specs.RefusesLaws.{kept-same, kept-front, kept-clear, success, refuses-unless, refuses-by}
 
 -- Set-up's list, shown with zeros behind it, fills its needed part.
 pub first-long : (heap : List ℕ) (t : ℕ) → 1 ≤ t → let n : ℕ = listWords (length heap) t in length (shown n (firstList (length heap) t)) ≡ n
@@ -52,7 +52,7 @@ module _ (heap : List ℕ) (t : ℕ) (map list : List ℕ) where
   -- Every set-up ends as demand 1 says.
   pub set-up-ends : SetUpEnds heap t map list (setsUp heap t map list)
   unfolding setsUp
-  set-up-ends = record { refuses = refuses-unless (λ n. refl) (within h t) 1 (refuses-unless (λ n. refl) long 2 (answers refl)); keeps-map = set-up-keeps .0; keeps-list = set-up-keeps .1 }
+  set-up-ends = record { refuses = refuses-unless (λ n. refl) (within h t) 1 (refuses-unless (λ n. refl) long 2 (success refl)); keeps-map = set-up-keeps .0; keeps-list = set-up-keeps .1 }
 
 -- Every survey ends so.
 pub survey-ends : (state : State) (list : List ℕ) → SurveyEnds (surveys state list)
@@ -64,7 +64,7 @@ survey-ends state list =
     refuses-unless (λ n. refl) (within h t) 1
     (refuses-unless (λ n. refl) (leb n (length list)) 2
     (refuses-unless (λ n. refl) (validList h t (state .count) (take n list)) 3
-    (answers refl)))
+    (success refl)))
 
 -- Read and write.
 module _ (state : State) (heap map : List ℕ) (a k : ℕ) where
@@ -77,12 +77,12 @@ module _ (state : State) (heap map : List ℕ) (a k : ℕ) where
       (refuses-unless (λ n. refl) (isStart (length heap) map a) 9
       (refuses-unless (λ n. refl) (wellFormed heap (state .keep) a) 5
       (refuses-unless (λ n. refl) (ltb k (sizeAt heap a - 1)) 10
-      (answers refl)))))
+      (success refl)))))
 
   -- Every read ends so.
   pub read-ends : ReadEnds (reads state heap map a k)
   unfolding reads
-  read-ends = refuses-by (λ n. refl) field-refuses (answers refl)
+  read-ends = refuses-by (λ n. refl) field-refuses (success refl)
 
   module _ (v : ℕ) where
     -- The heap has its length still.
@@ -93,6 +93,6 @@ module _ (state : State) (heap map : List ℕ) (a k : ℕ) where
     pub write-ends : WriteEnds heap (writes state heap map a k v)
     unfolding writes
     write-ends = record {
-      refuses = refuses-by (λ n. refl) field-refuses (refuses-unless (λ n. refl) (takes heap map a k v) 11 (answers refl));
+      refuses = refuses-by (λ n. refl) field-refuses (refuses-unless (λ n. refl) (takes heap map a k v) 11 (success refl));
       keeps-heap = by-test Long (eqb (fieldCode state heap map a k) 0) (λ none. by-test Long (takes heap map a k v) (λ taken. length-set heap (wordOf a k) v) (λ not-taken. refl)) (λ some. refl);
     }

@@ -13,7 +13,7 @@ use Rattle.layout.specs.declared.Interval.{Interval}
 use Rattle.runs.specs.Runs.{runs, freeList}
 use Rattle.runs.specs.Lists.{Member, Longest, Ordered}
 use Rattle.freelist.specs.Records.{records}
-use Rattle.marking.specs.Marking.{Marking, going, run, begin}
+use Rattle.marking.specs.Marking.{Marking, going, refused, move, run, begin}
 use Rattle.collector.specs.Collect.{Left}
 use Rattle.collector.specs.declared.Collected.{Collected}
 use Rattle.demands.specs.Reach.{Reach, Live, Sound, Fault}
@@ -53,21 +53,21 @@ listOf answer list = records (answer .state .count) list
 -- What a collection that succeeds answers, and what it leaves in map and list.
 pub record Finds (heap : List ℕ) (t : ℕ) (roots : List ℕ) (answer : Collected) (map list : List ℕ) : Type 0 where
   -- Just the addresses that are reached are starts on the map.
-  pub starts : Tells (isStart (length heap) map) (Reach heap roots)
-  -- No other bit of its needed words is set.
-  pub bits : Tells (bitAt (take (mapWords (length heap)) map)) (Reach heap roots)
+  pub starts : Tells (isStart (length heap) map) (Reach heap t roots)
+  -- Just their bits are set in its needed words.
+  pub bits : Tells (bitAt (take (mapWords (length heap)) map)) (Reach heap t roots)
   -- Just the words of objects that are reached lie in objects on the map.
-  pub covers : Tells (covered heap map) (Live heap roots)
+  pub covers : Tells (covered heap map) (Live heap t roots)
   -- The list has just the longest runs of words outside them that have t words or more.
-  pub longest : (i : Interval) → Member (listOf answer list) i ↔ Longest t (Live heap roots) 1 (length heap) i
+  pub longest : (i : Interval) → Member (listOf answer list) i ↔ Longest t (Live heap t roots) 1 (length heap) i
   -- It goes by address.
   pub ordered : Ordered t 1 (length heap) 1 (listOf answer list)
   -- It is what mark-sweep's sweep gives, by any test for those words.
-  pub swept : (live : ℕ → Bool) → Tells live (Live heap roots) → listOf answer list ≡ runs t (length heap) live
+  pub swept : (live : ℕ → Bool) → Tells live (Live heap t roots) → listOf answer list ≡ runs t (length heap) live
   -- The records behind it are zero.
   pub zeros : take (listWords (length heap) t) list ≡ shown (listWords (length heap) t) (listOf answer list)
   -- The counts are sums over what is reached, by any test for it, and the roots.
-  pub sums : (reached : ℕ → Bool) → Tells reached (Reach heap roots) → Sums heap roots reached answer
+  pub sums : (reached : ℕ → Bool) → Tells reached (Reach heap t roots) → Sums heap roots reached answer
   -- The peak is the greatest number of intervals that were listed at once.
   pub peak : Peak heap t roots (answer .peak)
 
@@ -76,3 +76,4 @@ pub record Demand2 (heap : List ℕ) (t : ℕ) (roots : List ℕ) (out : Left) :
   pub succeeds : (out .answer .code ≡ 0) ↔ Sound heap t roots
   pub finds : out .answer .code ≡ 0 → Finds heap t roots (out .answer) (out .map) (out .list)
   pub refuses : out .answer .code ≢ 0 → Fault heap t roots (out .answer .code) (out .answer .place)
+  pub first : out .answer .code ≢ 0 → (n : ℕ) × (m : Marking) × Moment heap t roots n m × (move heap t m ≡ refused (out .answer .code) (out .answer .place))

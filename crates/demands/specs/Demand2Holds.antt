@@ -16,6 +16,7 @@ use Rattle.demands.specs.TracksLaws.{collection-told}
 use Rattle.demands.specs.ReachLaws.{unsound, fault-above}
 use Rattle.demands.specs.SettledLaws.{settled-sound}
 use Rattle.demands.specs.FindsLaws.{done-finds}
+use Rattle.demands.specs.FirstLaws.{stops}
 use Rattle.demands.specs.LentLaws.{inFront, lent-parts}
 
 -- It holds of a collection in the needed parts, whatever stands behind them.
@@ -25,12 +26,12 @@ parts-demand-2 heap t roots keeps map stack list = go (collection heap t roots) 
   where
     go : (o : Outcome) → collection heap t roots ≡ o → Told heap t roots o → Demand2 heap t roots (inFront (settles heap t o) map stack list)
     go (going m) e g = absurd (rw e at (ends heap t keeps roots))
-    go (done m) e g = record { succeeds = (λ _. settled-sound g, λ _. refl); finds = λ _. done-finds keeps g e map list; refuses = λ some. absurd (some refl) }
+    go (done m) e g = record { succeeds = (λ _. settled-sound g, λ _. refl); finds = λ _. done-finds keeps g e map list; refuses = λ some. absurd (some refl); first = λ some. absurd (some refl) }
     go (refused c r) e g =
         let some : c ≢ 0 = λ none. omega (arith, fault-above g) in
-        record { succeeds = (λ none. absurd (some none), λ sound. absurd (unsound g sound)); finds = λ none. absurd (some none); refuses = λ _. g }
+        record { succeeds = (λ none. absurd (some none), λ sound. absurd (unsound g sound)); finds = λ none. absurd (some none); refuses = λ _. g; first = λ _. stops heap t roots e }
 
 -- It holds within the limits.
 pub demand-2 : (state : State) (heap roots map stack list : List ℕ) → Lent state heap roots map stack list → Demand2 heap (state .keep) roots (collects state heap roots map stack list)
 demand-2 state heap roots map stack list lent =
-    rw (lent-parts state heap roots map stack list lent) (parts-demand-2 heap (state .keep) roots (suits-limits state heap (lent .suit) .0 .keeps) _ _ _)
+    rw (lent-parts state heap roots map stack list lent) (parts-demand-2 heap (state .keep) roots (suits-limits state heap (lent .bounded .suit) .0 .keeps) _ _ _)

@@ -1,9 +1,9 @@
 -- The worked examples P1 to P11, in one table.
-use Prim.Native.Nat.{ℕ, _*_}
-use mathlib.Core.List.{List, [], _∷_}
-use lib.ListN.{take, set, replicate}
+use Prim.Native.Nat.{ℕ, _+_, _-_, _*_}
+use mathlib.Core.List.{List, [], _∷_, _++_}
+use lib.ListN.{length, take, drop, set, replicate}
 use Rattle.layout.specs.Limits.{mapWords, stackWords, listWords}
-use Rattle.demands.specs.World.{World, Call, allot, collect, survey, setUp, after, answers, afterAll}
+use Rattle.demands.specs.World.{World, Call, allot, collect, survey, newWorld, after, answers, afterAll}
 
 -- An image: the heap's length, the keep length, and the words that are not 0, each with its address.
 pub record Image : Type 0 where
@@ -11,11 +11,12 @@ pub record Image : Type 0 where
   pub keep : ℕ
   pub given : List (ℕ × ℕ)
 
--- What is seen of a call: the numbers of its answer, and afterwards the words of the map, and those of the list up to its count.
+-- What is seen of a call: the numbers of its answer, and afterwards the words of the map, those of the list up to its count, and the rest: the list behind them, and the stack.
 pub record Seen : Type 0 where
   pub answer : List ℕ
   pub map : List ℕ
   pub list : List ℕ
+  pub rest : List ℕ
 
 -- A worked example: an image, the calls made after its set-up, one last call, and what must be seen of that one.
 pub record Example : Type 0 where
@@ -30,30 +31,31 @@ laid h [] = replicate h 0
 laid h (g ∷ given) = set (laid h given) (g .0) (g .1)
 
 -- A buffer of n words as it is lent, none of them clear.
-abbrev pub lent : ℕ → List ℕ
-lent n = replicate n 9
+abbrev pub junk : ℕ → List ℕ
+junk n = replicate n 9
 
 -- The world that set-up leaves of an image, with buffers of just the needed lengths.
 unfoldable pub fresh : Image → World
 fresh i =
     let h : ℕ = i .words in
     let t : ℕ = i .keep in
-    setUp (laid h (i .given)) t (lent (mapWords h)) (lent (stackWords h t)) (lent (listWords h t))
+    newWorld (laid h (i .given)) t (junk (mapWords h)) (junk (stackWords h t)) (junk (listWords h t))
 
 -- What is seen of an example's last call.
 unfoldable pub seen : Example → Seen
 seen e =
     let w : World = afterAll (fresh (e .image)) (e .before) in
     let next : World = after w (e .last) in
-    record { answer = answers w (e .last); map = next .map; list = take (2 * next .state .count) (next .list) }
+    let used : ℕ = 2 * next .state .count in
+    record { answer = answers w (e .last); map = next .map; list = take used (next .list); rest = drop used (next .list) ++ next .stack }
 
 -- An image, put together.
 abbrev pub image : ℕ → ℕ → List (ℕ × ℕ) → Image
 image words keep given = record { words = words; keep = keep; given = given }
 
--- A row of the table: image, calls before, last call; answer, map, list.
+-- A row of the table: image, calls before, last call; answer, map, list. The rest is expected to be zeros.
 abbrev pub row : Image → List Call → Call → List ℕ → List ℕ → List ℕ → Example
-row i before last answer map list = record { image = i; before = before; last = last; expected = record { answer = answer; map = map; list = list } }
+row i before last answer map list = record { image = i; before = before; last = last; expected = record { answer = answer; map = map; list = list; rest = replicate (listWords (i .words) (i .keep) - length list + stackWords (i .words) (i .keep)) 0 } }
 
 -- The image of P1 to P3: an object at 1 refers to one at 8.
 abbrev pub linked : Image

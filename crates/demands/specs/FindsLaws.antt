@@ -56,7 +56,7 @@ module _ {heap : List ℕ} {t : ℕ} {roots : List ℕ} {m : Marking} (keeps : 1
   unfolding free needed
   done-finds over past-map past-list =
       let l : List ℕ = shown needed free ++ past-list in
-      let starts : Tells (isStart (length heap) (m .map ++ past-map)) (Reach heap roots) = starts-tell g (m .map ++ past-map) (bit-whole past-map) in
+      let starts : Tells (isStart (length heap) (m .map ++ past-map)) (Reach heap t roots) = starts-tell g (m .map ++ past-map) (bit-whole past-map) in
       let back : records (length free) l ≡ free = records-front needed free past-list in
       record {
         starts = starts;

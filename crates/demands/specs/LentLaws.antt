@@ -2,7 +2,7 @@
 use Prim.Native.Nat.{ℕ}
 use mathlib.Core.Path.{_≡_, refl}
 use mathlib.Core.Bool.{Bool, true, _&&_, and-eq-true-iff}
-use mathlib.Core.List.{List, [], _∷_, _++_, List·Memᴰ, List·Memᴰ·head, List·Memᴰ·tail}
+use mathlib.Core.List.{List, _++_}
 use lib.ListN.{length, drop}
 use lib.Dec.{leb}
 use borrow.Author.Tests.{leb-true, le-leb}
@@ -12,7 +12,7 @@ use Rattle.layout.specs.declared.State.{State}
 use Rattle.runs.specs.LongestLaws.{clash}
 use Rattle.collector.specs.Collect.{Left, left, collectsIn, collects}
 use Rattle.collector.specs.CollectLaws.{three-fit}
-use Rattle.demands.specs.Lent.{Lent}
+use Rattle.demands.specs.Lent.{Bounded, Lent}
 use Rattle.demands.specs.Demand1.{lentRefused}
 
 -- The needed parts in front of the rest.
@@ -35,11 +35,17 @@ module _ (state : State) (heap roots map stack list : List ℕ) where
   abbrev long : Bool
   long = leb (mapWords (state .words)) (length map) && leb (stackWords (state .words) (state .keep)) (length stack) && leb (listWords (state .words) (state .keep)) (length list)
 
-  -- What is lent passes the first.
-  lent-allowed : Lent state heap roots map stack list → allowed ≡ true
-  lent-allowed x = rw (x .suit, le-leb (length roots) maxRoots (x .few))
+  -- What is within the limits passes the first.
+  bounded-passes : Bounded state heap roots → allowed ≡ true
+  bounded-passes x = rw (x .suit, le-leb (length roots) maxRoots (x .few))
 
-  -- It passes the second.
+  -- And only that does.
+  passes-bounded : allowed ≡ true → Bounded state heap roots
+  passes-bounded ok =
+      let x = and-eq-true-iff (suits state heap) _ .0 ok in
+      record { suit = x .0; few = leb-true (length roots) maxRoots (x .1) }
+
+  -- What is lent passes the second.
   lent-long : Lent state heap roots map stack list → long ≡ true
   lent-long x =
       let h : ℕ = state .words in
@@ -49,20 +55,17 @@ module _ (state : State) (heap roots map stack list : List ℕ) where
   -- What passes both is lent.
   lent-both : allowed ≡ true → long ≡ true → Lent state heap roots map stack list
   lent-both ok enough =
-      let x = and-eq-true-iff (suits state heap) _ .0 ok in
       let y = three-fit map stack list enough in
-      record { suit = x .0; few = leb-true (length roots) maxRoots (x .1); map-room = y .0; stack-room = y .1; list-room = y .2 }
+      record { bounded = passes-bounded ok; map-room = y .0; stack-room = y .1; list-room = y .2 }
 
-  -- What holds of a collection in the needed parts, and of a refusal with 1 or 2, holds of every collection.
-  pub lent-cases : (P : Left → Type 0) → (Lent state heap roots map stack list → P inParts)
-      → ((n : ℕ) → ¬ Lent state heap roots map stack list → List·Memᴰ n (1 ∷ 2 ∷ []) → P (lentRefused state map stack list n))
-      → P (collects state heap roots map stack list)
+  -- What holds of a collection in the needed parts, of a refusal with 1 out of the limits, and of one with 2 where a buffer is too short, holds of every collection.
+  pub lent-cases : (P : Left → Type 0) → (Lent state heap roots map stack list → P inParts) → (¬ Bounded state heap roots → P (lentRefused state map stack list 1))
+      → (Bounded state heap roots → ¬ Lent state heap roots map stack list → P (lentRefused state map stack list 2)) → P (collects state heap roots map stack list)
   unfolding collects
-  lent-cases P given refuse =
-      by-test P allowed (λ ok. by-test P long (λ enough. given (lent-both ok enough))
-      (λ short. refuse 2 (λ x. clash (lent-long x) short) (List·Memᴰ·tail (List·Memᴰ·head refl))))
-      (λ out. refuse 1 (λ x. clash (lent-allowed x) out) (List·Memᴰ·head refl))
+  lent-cases P given one two =
+      by-test P allowed (λ ok. by-test P long (λ enough. given (lent-both ok enough)) (λ short. two (passes-bounded ok) (λ x. clash (lent-long x) short)))
+      (λ out. one (λ x. clash (bounded-passes x) out))
 
   -- Within the limits it is the one in the needed parts.
   pub lent-parts : Lent state heap roots map stack list → collects state heap roots map stack list ≡ inParts
-  lent-parts = lent-cases (λ out. Lent state heap roots map stack list → out ≡ inParts) (λ _ _. refl) (λ n none m lent. absurd (none lent))
+  lent-parts = lent-cases (λ out. Lent state heap roots map stack list → out ≡ inParts) (λ _ _. refl) (λ out lent. absurd (out (lent .bounded))) (λ ok none lent. absurd (none lent))

@@ -14,6 +14,7 @@ pub mod MarkedLaws
 pub mod TracksLaws
 pub mod PeakLaws
 pub mod FindsLaws
+pub mod FirstLaws
 pub mod RefusesLaws
 pub mod LentLaws
 pub mod Demand1Holds

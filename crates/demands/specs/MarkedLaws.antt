@@ -25,7 +25,7 @@ use Rattle.demands.specs.Tracks.{Marked, Named, a-root, a-field, Pending
 
 module _ (heap : List ℕ) (t : ℕ) (roots : List ℕ) where
   -- A reference that is read, and names nothing new, leaves the others.
-  pub passed : {map q : List ℕ} (r : ℕ) → (r ≢ 0 → bitAt map r ≡ true) → Pending heap roots map (r ∷ q) → Pending heap roots map q
+  pub passed : {map q : List ℕ} (r : ℕ) → (r ≢ 0 → bitAt map r ≡ true) → Pending heap t roots map (r ∷ q) → Pending heap t roots map q
   passed {map} {q} r old p = record { reached = λ f i. p .reached f (List·Memᴰ·tail i); named = λ f k some new. later f some new (p .named f k some new) }
     where
       later : (f : ℕ) → f ≢ 0 → bitAt map f ≡ false → List·Memᴰ f (r ∷ q) → List·Memᴰ f q
@@ -33,7 +33,7 @@ module _ (heap : List ℕ) (t : ℕ) (roots : List ℕ) where
       later f some new (List·Memᴰ·tail i) = i
 
   module _ {map : List ℕ} (k : Marked heap t roots map) where
-    -- An object on the map has a word of its own, and starts on it.
+    -- The words of an object on the map are covered.
     owns : (b w : ℕ) → bitAt map b ≡ true → b ≤ w → w < b + sizeAt heap b → covered heap map w ≡ true
     owns b w e lo hi =
         let f : Formed heap t b = formed heap t b (k .formed b e) in
@@ -41,7 +41,7 @@ module _ (heap : List ℕ) (t : ℕ) (roots : List ℕ) where
         owner-covers heap map w b (record { start = is-start (length heap) map b (record { some = omega arith; inside = omega (arith, f .ends, f .fewer); bit = e }); low = lo; high = hi })
 
     -- An object that overlaps one on the map is at fault.
-    pub clashes : {r : ℕ} → Reach heap roots r → New heap map r → wellFormed heap t r ≡ true → overlaps heap map r ≡ true → Fault heap t roots 6 r
+    pub clashes : {r : ℕ} → Reach heap t roots r → New heap map r → wellFormed heap t r ≡ true → overlaps heap map r ≡ true → Fault heap t roots 6 r
     clashes {r} met new well e =
         let w = overlaps-some heap map r e in
         let o = covered-owner heap map (w .0) (w .3) in
@@ -51,7 +51,7 @@ module _ (heap : List ℕ) (t : ℕ) (roots : List ℕ) where
         overlap met well (k .reached b bit) (k .formed b bit) other (omega (arith, w .1, o .1 .high), omega (arith, w .2, o .1 .low))
 
     -- An object that is reached, new, well-formed and apart comes on the map.
-    module _ {r : ℕ} (met : Reach heap roots r) (new : New heap map r) (well : wellFormed heap t r ≡ true) (free : overlaps heap map r ≡ false) where
+    module _ {r : ℕ} (met : Reach heap t roots r) (new : New heap map r) (well : wellFormed heap t r ≡ true) (free : overlaps heap map r ≡ false) where
       here : r / 32 < length map
       here = rw (k .sized) (bit-inside (length heap) r (new .inside))
 
@@ -72,7 +72,7 @@ module _ (heap : List ℕ) (t : ℕ) (roots : List ℕ) where
       pub marked-more : Marked heap t roots (setBit map r)
       marked-more = record {
         sized = length-setBit map r ∙ k .sized;
-        reached = λ a e. elim (was-or-is a e) [ inl same ↦ subst (Reach heap roots) (sym same) met | inr was ↦ k .reached a was ];
+        reached = λ a e. elim (was-or-is a e) [ inl same ↦ subst (Reach heap t roots) (sym same) met | inr was ↦ k .reached a was ];
         formed = λ a e. elim (was-or-is a e) [ inl same ↦ rw same well | inr was ↦ k .formed a was ];
         apart = λ a b p q. both a b (was-or-is a p) (was-or-is b q);
       }
@@ -84,14 +84,14 @@ module _ (heap : List ℕ) (t : ℕ) (roots : List ℕ) where
           both a b (inr p) (inr q) other = k .apart a b p q other
 
       -- Its references are to be read behind those of the object in hand.
-      pub pending-more : (todo rest : List ℕ) → Pending heap roots map (r ∷ (todo ++ rest)) → Pending heap roots (setBit map r) (todo ++ (fieldsOf heap r ++ rest))
+      pub pending-more : (todo rest : List ℕ) → Pending heap t roots map (r ∷ (todo ++ rest)) → Pending heap t roots (setBit map r) (todo ++ (fieldsOf heap r ++ rest))
       pending-more todo rest p = record { reached = λ f i. from f (List·Memᴰ·append-cases todo i); named = λ f n some clear. to f n some (was-not f clear) }
         where
-          from-fields : (f : ℕ) → List·Memᴰ f (fieldsOf heap r) ⊎ List·Memᴰ f rest → f ≢ 0 → Reach heap roots f
-          from-fields f (inl i) some = by-field met i some
+          from-fields : (f : ℕ) → List·Memᴰ f (fieldsOf heap r) ⊎ List·Memᴰ f rest → f ≢ 0 → Reach heap t roots f
+          from-fields f (inl i) some = by-field met well i some
           from-fields f (inr i) some = p .reached f (List·Memᴰ·tail (Memᴰ·append-right todo i)) some
 
-          from : (f : ℕ) → List·Memᴰ f todo ⊎ List·Memᴰ f (fieldsOf heap r ++ rest) → f ≢ 0 → Reach heap roots f
+          from : (f : ℕ) → List·Memᴰ f todo ⊎ List·Memᴰ f (fieldsOf heap r ++ rest) → f ≢ 0 → Reach heap t roots f
           from f (inl i) some = p .reached f (List·Memᴰ·tail (Memᴰ·append-left rest i)) some
           from f (inr i) some = from-fields f (List·Memᴰ·append-cases (fieldsOf heap r) i) some
 

@@ -1,6 +1,6 @@
 -- The peak is the greatest number of intervals listed at any moment.
 use Prim.{Unit}
-use Prim.Native.Nat.{ℕ, zero, suc, _+_, _≤_, max}
+use Prim.Native.Nat.{ℕ, suc, _+_, _≤_, max}
 use mathlib.Core.Path.{_≡_, refl, sym, ap, _∙_}
 use mathlib.Core.List.{List, [], _∷_}
 use native.Mathlib.Omega.{arith}
@@ -9,8 +9,8 @@ use lib.ListN.{length}
 use Rattle.marking.specs.Marking.{Marking, Outcome, going, done, refused, marked, leaving, move, run, begin, collection}
 use Rattle.marking.specs.Meets.{Meets, empty, outside, again, ill-formed, overlapping, apart}
 use Rattle.marking.specs.MeetLaws.{meet-meets}
-use Rattle.marking.specs.InvariantLaws.{run-done, run-refused}
 use Rattle.demands.specs.Demand2.{Moment, intervals, Peak}
+use Rattle.marking.specs.RunLaws.{run-done, run-keeps, run-add}
 
 module _ (heap : List ℕ) (t : ℕ) where
   -- What a move does to map and peak: nothing, or it splits an interval and looks at the peak again.
@@ -42,15 +42,6 @@ module _ (heap : List ℕ) (t : ℕ) where
   move-shift : (m : Marking) → Shift (m .map) (m .peak) (move heap t m)
   move-shift m = moves-shift m (m .todo) (m .stack) (m .roots)
 
-  -- Moves made one after the other.
-  run-add : (a b c : ℕ) → a + b ≡ c → (o : Outcome) → run c heap t o ≡ run b heap t (run a heap t o)
-  unfolding run
-  run-add zero b c e o = let same : c ≡ b = omega arith in rw same
-  run-add (suc a) b zero e o = absurd (omega arith)
-  run-add (suc a) b (suc c) e (going m) = run-add a b c (omega arith) (move heap t m)
-  run-add (suc a) b (suc c) e (done m) = sym (run-done b heap t m)
-  run-add (suc a) b (suc c) e (refused n r) = sym (run-refused b heap t n r)
-
   -- The peak is not below p.
   abbrev AtLeast : ℕ → Outcome → Type 0
   AtLeast p (going m) = p ≤ m .peak
@@ -66,11 +57,7 @@ module _ (heap : List ℕ) (t : ℕ) where
 
   -- Any number of moves does not.
   run-least : (n p : ℕ) (o : Outcome) → AtLeast p o → AtLeast p (run n heap t o)
-  unfolding run
-  run-least zero p o l = l
-  run-least (suc n) p (going m) l = run-least n p (move heap t m) (shift-least l (move-shift m))
-  run-least (suc n) p (done m) l = l
-  run-least (suc n) p (refused c r) l = l
+  run-least n p = run-keeps heap t (AtLeast p) (λ m l. shift-least l (move-shift m)) n
 
   module _ (roots : List ℕ) where
     -- The collection after n moves.
@@ -101,16 +88,12 @@ module _ (heap : List ℕ) (t : ℕ) where
     -- It holds at every moment.
     always-topped : (n : ℕ) → Topped (at n)
     unfolding run begin
-    always-topped zero = record { now = omega arith; seen = (0, begin heap t roots, refl, refl) }
-    always-topped (suc n) = go (at n) refl (always-topped n)
+    always-topped n = run-keeps heap t (λ o. ((k : ℕ) × (at k ≡ o)) × Topped o) step n (going (begin heap t roots)) ((0, refl), record { now = omega arith; seen = (0, begin heap t roots, refl, refl) }) .1
       where
-        next : (o : Outcome) → at n ≡ o → at (suc n) ≡ run 1 heap t o
-        next o e = run-add n 1 (suc n) (omega arith) (going (begin heap t roots)) ∙ ap (run 1 heap t) e
-
-        go : (o : Outcome) → at n ≡ o → Topped o → Topped (at (suc n))
-        go (going m) e g = let moved : at (suc n) ≡ move heap t m = next (going m) e in rw moved (shift-tops (suc n) moved g (move-shift m))
-        go (done m) e g = rw (next (done m) e) g
-        go (refused c r) e g = rw (next (refused c r) e) g
+        step : (m : Marking) → ((k : ℕ) × (at k ≡ going m)) × Topped (going m) → ((k : ℕ) × (at k ≡ move heap t m)) × Topped (move heap t m)
+        step m ((k, e), g) =
+            let moved : at (suc k) ≡ move heap t m = run-add heap t k 1 (suc k) (omega arith) (going (begin heap t roots)) ∙ ap (run 1 heap t) e in
+            ((suc k, moved), shift-tops (suc k) moved g (move-shift m))
 
     module _ {m : Marking} (over : collection heap t roots ≡ done m) where
       -- A collection that is done has been at every moment before.
@@ -119,7 +102,7 @@ module _ (heap : List ℕ) (t : ℕ) where
       before n k e =
           let all : ℕ = suc (length roots + length heap) in
           let o : Outcome = going (begin heap t roots) in
-          let there : run all heap t (going k) ≡ done m = ap (run all heap t) (sym e) ∙ sym (run-add n all (n + all) refl o) ∙ run-add all n (n + all) (omega arith) o ∙ ap (run n heap t) over ∙ run-done n heap t m in
+          let there : run all heap t (going k) ≡ done m = ap (run all heap t) (sym e) ∙ sym (run-add heap t n all (n + all) refl o) ∙ run-add heap t all n (n + all) (omega arith) o ∙ ap (run n heap t) over ∙ run-done n heap t m in
           (all, there)
 
       -- The answer's peak is the peak.

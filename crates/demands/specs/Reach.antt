@@ -7,14 +7,18 @@ use mathlib.Core.List.{List, List·Memᴰ}
 use lib.ListN.{length}
 use Rattle.words.specs.Header.{sizeAt, wellFormed, fieldsOf}
 
--- The address r is reached: it is a root, or a reference of an object that is reached, and it is not empty.
-pub data Reach (heap roots : List ℕ) : ℕ → Type 0 where
-  by-root : {r : ℕ} → List·Memᴰ r roots → r ≢ 0 → Reach heap roots r
-  by-field : {a r : ℕ} → Reach heap roots a → List·Memᴰ r (fieldsOf heap a) → r ≢ 0 → Reach heap roots r
+-- The object at a has the reference r.
+abbrev pub Refers : List ℕ → ℕ → ℕ → Type 0
+Refers heap a r = List·Memᴰ r (fieldsOf heap a)
+
+-- The address r is reached: it is not empty, and it is a root, or a reference of a well-formed object that is reached.
+pub data Reach (heap : List ℕ) (t : ℕ) (roots : List ℕ) : ℕ → Type 0 where
+  by-root : {r : ℕ} → List·Memᴰ r roots → r ≢ 0 → Reach heap t roots r
+  by-field : {a r : ℕ} → Reach heap t roots a → wellFormed heap t a ≡ true → Refers heap a r → r ≢ 0 → Reach heap t roots r
 
 -- Word w lies in an object that is reached.
-abbrev pub Live : List ℕ → List ℕ → ℕ → Type 0
-Live heap roots w = (a : ℕ) × Reach heap roots a × (a ≤ w) × (w < a + sizeAt heap a)
+abbrev pub Live : List ℕ → ℕ → List ℕ → ℕ → Type 0
+Live heap t roots w = (a : ℕ) × Reach heap t roots a × (a ≤ w) × (w < a + sizeAt heap a)
 
 -- The objects at a and b overlap: each begins before the other ends.
 abbrev pub Overlap : List ℕ → ℕ → ℕ → Type 0
@@ -22,11 +26,11 @@ Overlap heap a b = (a < b + sizeAt heap b) × (b < a + sizeAt heap a)
 
 -- Whatever is reached is a well-formed object, and no two such objects overlap.
 pub record Sound (heap : List ℕ) (t : ℕ) (roots : List ℕ) : Type 0 where
-  pub formed : (a : ℕ) → Reach heap roots a → wellFormed heap t a ≡ true
-  pub apart : (a b : ℕ) → Reach heap roots a → Reach heap roots b → a ≢ b → ¬ Overlap heap a b
+  pub formed : (a : ℕ) → Reach heap t roots a → wellFormed heap t a ≡ true
+  pub apart : (a b : ℕ) → Reach heap t roots a → Reach heap t roots b → a ≢ b → ¬ Overlap heap a b
 
--- What the numbers 4, 5 and 6 say of the reference r that they name: it is reached, and it lies outside the heap, or its header is not well-formed, or its object overlaps another one that is reached.
+-- What a number says of the reference that it names, which is reached: 4, it lies outside the heap; 5, its header is not well-formed; 6, it is well-formed, and overlaps another well-formed object that is reached.
 pub data Fault (heap : List ℕ) (t : ℕ) (roots : List ℕ) : ℕ → ℕ → Type 0 where
-  bad-address : {r : ℕ} → Reach heap roots r → length heap ≤ r → Fault heap t roots 4 r
-  bad-header : {r : ℕ} → Reach heap roots r → r < length heap → wellFormed heap t r ≡ false → Fault heap t roots 5 r
-  overlap : {r b : ℕ} → Reach heap roots r → wellFormed heap t r ≡ true → Reach heap roots b → wellFormed heap t b ≡ true → r ≢ b → Overlap heap r b → Fault heap t roots 6 r
+  bad-address : {r : ℕ} → Reach heap t roots r → length heap ≤ r → Fault heap t roots 4 r
+  bad-header : {r : ℕ} → Reach heap t roots r → r < length heap → wellFormed heap t r ≡ false → Fault heap t roots 5 r
+  overlap : {r b : ℕ} → Reach heap t roots r → wellFormed heap t r ≡ true → Reach heap t roots b → wellFormed heap t b ≡ true → r ≢ b → Overlap heap r b → Fault heap t roots 6 r

@@ -1,22 +1,23 @@
 -- Laws of what is reached, and of faults.
 use Prim.Native.Nat.{ℕ, _≤_}
-use mathlib.Core.Path.{refl}
+use mathlib.Core.Path.{_≡_, refl}
 use mathlib.Core.Logic.{_≢_}
 use mathlib.Core.List.{List, [], _∷_, List·Memᴰ, List·Memᴰ·head, List·Memᴰ·tail}
 use native.Mathlib.Omega.{arith}
-use Rattle.words.specs.Header.{fieldsOf}
+use mathlib.Core.Bool.{true}
+use Rattle.words.specs.Header.{wellFormed}
 use Rattle.words.specs.HeaderLaws.{Formed, formed}
 use Rattle.runs.specs.LongestLaws.{clash}
-use Rattle.demands.specs.Reach.{Reach, by-root, by-field, Sound, Fault, bad-address, bad-header, overlap}
+use Rattle.demands.specs.Reach.{Refers, Reach, by-root, by-field, Sound, Fault, bad-address, bad-header, overlap}
 
--- What holds of every root, and of every reference of what it holds of, the empty ones left out, holds of all that is reached.
-pub reach-least : {heap roots : List ℕ} (P : ℕ → Type 0) → ((r : ℕ) → List·Memᴰ r roots → r ≢ 0 → P r) → ((a r : ℕ) → P a → List·Memᴰ r (fieldsOf heap a) → r ≢ 0 → P r) → {a : ℕ} → Reach heap roots a → P a
+-- What holds of every root, and of every reference of a well-formed object that it holds of, the empty ones left out, holds of all that is reached.
+pub reach-least : {heap : List ℕ} {t : ℕ} {roots : List ℕ} (P : ℕ → Type 0) → ((r : ℕ) → List·Memᴰ r roots → r ≢ 0 → P r) → ((a r : ℕ) → P a → wellFormed heap t a ≡ true → Refers heap a r → r ≢ 0 → P r) → {a : ℕ} → Reach heap t roots a → P a
 reach-least P roots fields (by-root {r} i some) = roots r i some
-reach-least P roots fields (by-field {a} {r} p i some) = fields a r (reach-least P roots fields p) i some
+reach-least P roots fields (by-field {a} {r} p well i some) = fields a r (reach-least P roots fields p) well i some
 
 -- What is reached is not empty.
-pub reach-some : {heap roots : List ℕ} {a : ℕ} → Reach heap roots a → a ≢ 0
-reach-some = reach-least (λ a. a ≢ 0) (λ r i some. some) (λ a r p i some. some)
+pub reach-some : {heap : List ℕ} {t : ℕ} {roots : List ℕ} {a : ℕ} → Reach heap t roots a → a ≢ 0
+reach-some = reach-least (λ a. a ≢ 0) (λ r i some. some) (λ a r p well i some. some)
 
 -- Where a number says that a reference is at fault, not all is sound.
 pub unsound : {heap : List ℕ} {t : ℕ} {roots : List ℕ} {c r : ℕ} → Fault heap t roots c r → ¬ Sound heap t roots

@@ -1,13 +1,13 @@
 -- Laws of refusals and of buffers that are kept.
 use Prim.Native.Nat.{ℕ, _≤_}
 use mathlib.Core.Path.{_≡_, refl, sym, ap}
-use mathlib.Core.Bool.{Bool, true, false, _&&_, and-eq-true-iff}
+use mathlib.Core.Bool.{Bool, true, false}
 use mathlib.Core.List.{List, [], _∷_, _++_, List·Memᴰ, List·Memᴰ·head, Memᴰ·cast, Memᴰ·append-left, Memᴰ·append-right}
 use native.Mathlib.Omega.{arith}
 use lib.ListN.{length, drop, replicate, length-append, length-drop, length-replicate}
 use lib.Seq.{drop-at}
-use lib.Dec.{leb, eqb}
-use borrow.Author.Tests.{leb-true, eqb-false}
+use lib.Dec.{eqb}
+use borrow.Author.Tests.{eqb-false}
 use Rattle.layout.specs.Refusal.{unless}
 use Rattle.demands.specs.Demand1.{Kept, frontCleared, Refused, Refuses}
 
@@ -23,16 +23,10 @@ kept-front {n} front buffer e l = record { long = omega (arith, length-append fr
 pub kept-clear : {n : ℕ} (buffer : List ℕ) → n ≤ length buffer → Kept n buffer (frontCleared n buffer)
 kept-clear {n} buffer l = kept-front (replicate n 0) buffer (length-replicate n 0) l
 
--- What the test of two buffers tells.
-pub two-fit : {m n : ℕ} (map list : List ℕ) → leb m (length map) && leb n (length list) ≡ true → (m ≤ length map) × (n ≤ length list)
-two-fit {m} {n} map list e =
-    let x = and-eq-true-iff (leb m (length map)) _ .0 e in
-    (leb-true m (length map) (x .0), leb-true n (length list) (x .1))
-
 module _ {A : Type 0} {code : A → ℕ} {refuse : ℕ → A} where
   -- An outcome with the number 0 needs no refusal.
-  pub answers : {numbers : List ℕ} {x : A} → code x ≡ 0 → Refuses code refuse numbers x
-  answers e some = absurd (some e)
+  pub success : {numbers : List ℕ} {x : A} → code x ≡ 0 → Refuses code refuse numbers x
+  success e some = absurd (some e)
 
   module _ (own : (n : ℕ) → code (refuse n) ≡ n) where
     -- A refusal with its number, where that is one of these.

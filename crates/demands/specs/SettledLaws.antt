@@ -2,8 +2,9 @@
 use Prim.Native.Nat.{ℕ, _+_, _≤_, _<_}
 use mathlib.Core.Path.{_≡_, refl, sym, _∙_}
 use mathlib.Core.Logic.{_≢_, _↔_, Iff·symm}
-use mathlib.Core.Bool.{Bool, true, false}
+use mathlib.Core.Bool.{Bool, true}
 use mathlib.Core.List.{List, [], List·Memᴰ·not-nil}
+use mathlib.Mathlib.Data.Bool.Basic.{eq-true-of-not-eq-false}
 use native.Mathlib.Omega.{arith}
 use lib.ListN.{length}
 use Rattle.words.specs.Header.{sizeAt, fieldsOf}
@@ -23,14 +24,9 @@ use Rattle.demands.specs.TotalLaws.{tells-same, total-same}
 use Rattle.demands.specs.Tracks.{Named, a-root, a-field, Tracks}
 use Rattle.demands.specs.ReachLaws.{reach-least, reach-some}
 
--- A bit that cannot be clear is set.
-not-clear : (b : Bool) → (b ≡ false → ⊥) → b ≡ true
-not-clear true f = refl
-not-clear false f = absurd (f refl)
-
 -- Where just what is reached starts on the map, just its words are covered.
-pub covered-tells : {heap roots : List ℕ} (map : List ℕ) → Tells (isStart (length heap) map) (Reach heap roots) → Tells (covered heap map) (Live heap roots)
-covered-tells {heap} {roots} map starts w = (
+pub covered-tells : {heap : List ℕ} {t : ℕ} {roots : List ℕ} (map : List ℕ) → Tells (isStart (length heap) map) (Reach heap t roots) → Tells (covered heap map) (Live heap t roots)
+covered-tells {heap} map starts w = (
   λ e. let o = covered-owner heap map w e in (o .0, starts (o .0) .0 (o .1 .start), o .1 .low, o .1 .high),
   λ (a, p, lo, hi). owner-covers heap map w a (record { start = starts a .1 p; low = lo; high = hi }),
 )
@@ -38,14 +34,14 @@ covered-tells {heap} {roots} map starts w = (
 module _ {heap : List ℕ} {t : ℕ} {roots : List ℕ} {m : Marking} (g : Tracks heap t roots [] m) where
   -- With nothing left to be read, whatever a root or an object on the map names is on the map.
   no-more : (r : ℕ) → Named heap roots (m .map) r → r ≢ 0 → bitAt (m .map) r ≡ true
-  no-more r n some = not-clear (bitAt (m .map) r) λ clear. List·Memᴰ·not-nil (g .pending .named r n some clear)
+  no-more r n some = eq-true-of-not-eq-false λ clear. List·Memᴰ·not-nil (g .pending .named r n some clear)
 
   -- So is whatever is reached.
-  all-marked : {a : ℕ} → Reach heap roots a → bitAt (m .map) a ≡ true
-  all-marked = reach-least (λ a. bitAt (m .map) a ≡ true) (λ r i some. no-more r (a-root i) some) (λ a r e i some. no-more r (a-field a e i) some)
+  all-marked : {a : ℕ} → Reach heap t roots a → bitAt (m .map) a ≡ true
+  all-marked = reach-least (λ a. bitAt (m .map) a ≡ true) (λ r i some. no-more r (a-root i) some) (λ a r e well i some. no-more r (a-field a e i) some)
 
   -- Just the objects that are reached are on the map.
-  pub bits-tell : Tells (bitAt (m .map)) (Reach heap roots)
+  pub bits-tell : Tells (bitAt (m .map)) (Reach heap t roots)
   bits-tell a = (g .marked .reached a, all-marked)
 
   -- All is sound.
@@ -53,37 +49,37 @@ module _ {heap : List ℕ} {t : ℕ} {roots : List ℕ} {m : Marking} (g : Track
   settled-sound = record { formed = λ a p. g .marked .formed a (all-marked p); apart = λ a b p q. g .marked .apart a b (all-marked p) (all-marked q) }
 
   -- What is reached is an address of the heap behind word 0.
-  pub reach-inside : {a : ℕ} → Reach heap roots a → (0 < a) × (a < length heap)
+  pub reach-inside : {a : ℕ} → Reach heap t roots a → (0 < a) × (a < length heap)
   reach-inside {a} p =
       let f : Formed heap t a = formed heap t a (settled-sound .formed a p) in
       let some : a ≢ 0 = reach-some p in
       (omega arith, omega (arith, f .ends, f .fewer))
 
   -- Just the addresses that are reached are starts, on any map that has the same bits for the heap's words.
-  pub starts-tell : (map : List ℕ) → ((a : ℕ) → a < length heap → bitAt map a ≡ bitAt (m .map) a) → Tells (isStart (length heap) map) (Reach heap roots)
+  pub starts-tell : (map : List ℕ) → ((a : ℕ) → a < length heap → bitAt map a ≡ bitAt (m .map) a) → Tells (isStart (length heap) map) (Reach heap t roots)
   starts-tell map same a = (
     λ e. let s = start (length heap) map a e in g .marked .reached a (sym (same a (s .inside)) ∙ s .bit),
     λ p. let x = reach-inside p in is-start (length heap) map a (record { some = x .0; inside = x .1; bit = same a (x .1) ∙ all-marked p }),
   )
 
   -- Just the words of objects that are reached are covered.
-  live-covered : Tells (covered heap (m .map)) (Live heap roots)
+  live-covered : Tells (covered heap (m .map)) (Live heap t roots)
   live-covered = covered-tells (m .map) (starts-tell (m .map) (λ a l. refl))
 
   -- The list has just the longest runs outside what is reached.
-  pub list-longest : 1 ≤ t → (i : Interval) → Member (freeList t heap (m .map)) i ↔ Longest t (Live heap roots) 1 (length heap) i
+  pub list-longest : 1 ≤ t → (i : Interval) → Member (freeList t heap (m .map)) i ↔ Longest t (Live heap t roots) 1 (length heap) i
   unfolding freeList
   list-longest keeps i =
       let x = runs-longest t (length heap) (covered heap (m .map)) i keeps in
       (λ y. longest-same live-covered (x .0 y), λ y. x .1 (longest-same (λ w. Iff·symm (live-covered w)) y))
 
   -- It is what the sweep gives, by any test that tells the words of objects that are reached.
-  pub list-swept : (live : ℕ → Bool) → Tells live (Live heap roots) → freeList t heap (m .map) ≡ runs t (length heap) live
+  pub list-swept : (live : ℕ → Bool) → Tells live (Live heap t roots) → freeList t heap (m .map) ≡ runs t (length heap) live
   unfolding freeList
   list-swept live tells = runs-agree t (length heap) live (covered heap (m .map)) (λ w lo hi. tells-same live-covered tells w)
 
   -- The counts are sums over what is reached, by any test that tells it, and the roots.
-  module _ {reached : ℕ → Bool} (tells : Tells reached (Reach heap roots)) where
+  module _ {reached : ℕ → Bool} (tells : Tells reached (Reach heap t roots)) where
     same-sum : (f : ℕ → ℕ) → total (bitAt (m .map)) f (length heap) ≡ total reached f (length heap)
     same-sum f = total-same f (tells-same bits-tell tells) (length heap)
 

@@ -1,5 +1,5 @@
 -- What a collection knows of what is reached holds at the beginning, and every move keeps it.
-use Prim.Native.Nat.{ℕ, zero, suc, _+_}
+use Prim.Native.Nat.{ℕ, suc, _+_}
 use mathlib.Core.Path.{_≡_, refl, sym}
 use mathlib.Core.Logic.{_≢_}
 use mathlib.Core.Bool.{true, false}
@@ -12,19 +12,20 @@ use Rattle.words.specs.Map.{bitAt}
 use Rattle.words.specs.MapLaws.{bit-zeros}
 use Rattle.layout.specs.Limits.{mapWords}
 use Rattle.runs.specs.LongestLaws.{clash}
-use Rattle.marking.specs.Marking.{Marking, Outcome, going, done, refused, marked, meet, leaving, move, run, begin, collection}
+use Rattle.marking.specs.Marking.{Marking, Outcome, going, marked, meet, leaving, move, begin, collection}
 use Rattle.marking.specs.Meets.{Meets, empty, outside, again, ill-formed, overlapping, apart}
 use Rattle.marking.specs.MeetLaws.{meet-meets}
 use Rattle.marking.specs.Invariant.{behind, queue}
 use Rattle.demands.specs.Reach.{Reach, by-root, bad-address, bad-header}
 use Rattle.demands.specs.Demand2.{total}
+use Rattle.marking.specs.RunLaws.{run-keeps}
 use Rattle.demands.specs.TotalLaws.{total-none}
 use Rattle.demands.specs.Tracks.{Marked, Named, a-root, a-field, Pending, Counted, Tracks, Told}
 use Rattle.demands.specs.MarkedLaws.{passed, clashes, marked-more, pending-more, counted-more}
 
 module _ (heap : List ℕ) (t : ℕ) (roots : List ℕ) where
   -- Meeting a reference, with the others to be read behind it.
-  meets-told : {m : Marking} {r : ℕ} {o : Outcome} → Marked heap t roots (m .map) → Pending heap roots (m .map) (r ∷ queue heap m)
+  meets-told : {m : Marking} {r : ℕ} {o : Outcome} → Marked heap t roots (m .map) → Pending heap t roots (m .map) (r ∷ queue heap m)
       → Counted heap roots (m .map) (length (queue heap m)) (m .objects) (m .live) (m .references) → Meets heap t m r o → Told heap t roots o
   unfolding marked queue behind
   meets-told {r = r} k p c (empty none) = record { marked = k; pending = passed heap t roots r (λ some. absurd (some none)) p; counted = c }
@@ -33,7 +34,7 @@ module _ (heap : List ℕ) (t : ℕ) (roots : List ℕ) where
   meets-told {r = r} k p c (ill-formed new e) = bad-header (p .reached r (List·Memᴰ·head refl) (new .some)) (new .inside) e
   meets-told {r = r} k p c (overlapping new well e) = clashes heap t roots k (p .reached r (List·Memᴰ·head refl) (new .some)) new well e
   meets-told {m = m} {r = r} k p c (apart new well free) =
-      let met : Reach heap roots r = p .reached r (List·Memᴰ·head refl) (new .some) in
+      let met : Reach heap t roots r = p .reached r (List·Memᴰ·head refl) (new .some) in
       let rest : List ℕ = behind heap (m .stack) (m .roots) in
       let longer : length (m .todo ++ rest) + length (fieldsOf heap r) ≡ length (m .todo ++ (fieldsOf heap r ++ rest)) = simp length-append (omega arith) in
       record {
@@ -57,14 +58,6 @@ module _ (heap : List ℕ) (t : ℕ) (roots : List ℕ) where
   moves-told m [] (a ∷ stack) left g = record { marked = g .marked; pending = g .pending; counted = g .counted }
   moves-told m [] [] (r ∷ left) g = next-told {m = leaving m [] [] left (m .references)} r (record { marked = g .marked; pending = g .pending; counted = g .counted })
   moves-told m [] [] [] g = g
-
-  -- Any number of moves.
-  run-told : (n : ℕ) (o : Outcome) → Told heap t roots o → Told heap t roots (run n heap t o)
-  unfolding run
-  run-told zero o g = g
-  run-told (suc n) (going m) g = run-told n (move heap t m) (moves-told m (m .todo) (m .stack) (m .roots) g)
-  run-told (suc n) (done m) g = g
-  run-told (suc n) (refused c r) g = g
 
   -- Before the first root nothing is on the map, and the roots are to be read.
   begin-told : Tracks heap t roots (queue heap (begin heap t roots)) (begin heap t roots)
@@ -91,4 +84,4 @@ module _ (heap : List ℕ) (t : ℕ) (roots : List ℕ) where
   -- A whole collection.
   pub collection-told : Told heap t roots (collection heap t roots)
   unfolding collection
-  collection-told = run-told _ (going (begin heap t roots)) begin-told
+  collection-told = run-keeps heap t (Told heap t roots) (λ m. moves-told m (m .todo) (m .stack) (m .roots)) _ (going (begin heap t roots)) begin-told

@@ -12,7 +12,7 @@ use Rattle.words.specs.Map.{bitAt, isStart}
 use Rattle.words.specs.MapLaws.{bit-take}
 use Rattle.layout.specs.Intervals.{shown}
 use Rattle.layout.specs.Limits.{within, suits, mapWords, stackWords, listWords}
-use Rattle.layout.specs.LimitsLaws.{limits, suits-limits, bit-inside}
+use Rattle.layout.specs.LimitsLaws.{limits, suits-limits, bit-inside, two-fit}
 use Rattle.layout.specs.RefusalLaws.{no-refusal}
 use Rattle.layout.specs.SetUp.{prepared, firstList, setsUp}
 use Rattle.layout.specs.declared.SetUp.{SetUp}
@@ -26,7 +26,6 @@ use Rattle.demands.specs.Demand1.{CollectEnds}
 use Rattle.demands.specs.Demand1CollectHolds.{collect-ends}
 use Rattle.demands.specs.Demand1Holds.{first-long}
 use Rattle.demands.specs.Demand1AllotHolds.{parts-long}
-use Rattle.demands.specs.RefusesLaws.{two-fit}
 use Rattle.demands.specs.Lent.{Lent}
 use Rattle.demands.specs.LentLaws.{inParts, lent-parts}
 use Rattle.demands.specs.Unread.{Alike, SetUpAlike, AllotAlike, neededOf}

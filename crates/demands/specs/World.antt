@@ -21,8 +21,8 @@ pub record World : Type 0 where
   pub list : List ℕ
 
 -- The world that set-up leaves of a heap, a keep length, and a map, a stack and a list that are lent.
-unfoldable pub setUp : List ℕ → ℕ → List ℕ → List ℕ → List ℕ → World
-setUp heap t map stack list =
+unfoldable pub newWorld : List ℕ → ℕ → List ℕ → List ℕ → List ℕ → World
+newWorld heap t map stack list =
     let left : Prepared = setsUp heap t map list in
     record { heap = heap; state = left .answer .state; map = left .map; stack = stack; list = left .list }
 

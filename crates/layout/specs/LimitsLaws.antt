@@ -7,7 +7,7 @@ use mathlib.Core.List.{List}
 use native.Mathlib.Nat.{div-le-self}
 use native.Mathlib.Omega.{arith}
 use lib.ListN.{length}
-use lib.Dec.{ltb, eqb}
+use lib.Dec.{leb, ltb, eqb}
 use borrow.Author.Tests.{leb-true, ltb-true, eqb-true, lt-ltb, le-ltb}
 use Rattle.layout.specs.Limits.{maxWords, maxKeep, within, suits, mapWords, stackWords, listRoom, listWords, roomsOf}
 use Rattle.layout.specs.declared.Rooms.{Rooms}
@@ -111,6 +111,12 @@ module _ (state : State) (heap : List ℕ) {rooms : Rooms} (e : rooms ≡ roomsO
       let more : 0 < rooms .map = ltb-true 0 (rooms .map) (x .0) in
       let some : rooms .map ≢ 0 = λ none. omega arith in
       record { limits = allowed h t e some; same = eqb-true (length heap) h (x .1); map-room = map-needs h t e some; stack-room = stack-needs h t e some; list-room = list-needs h t e some }
+
+-- What the test of two buffers tells.
+pub two-fit : {m n : ℕ} (map list : List ℕ) → leb m (length map) && leb n (length list) ≡ true → (m ≤ length map) × (n ≤ length list)
+two-fit {m} {n} map list e =
+    let x = and-eq-true-iff (leb m (length map)) _ .0 e in
+    (leb-true m (length map) (x .0), leb-true n (length list) (x .1))
 
 -- A map of the needed length has a word for each bit of the heap.
 pub bit-inside : (h a : ℕ) → a < h → a / 32 < mapWords h

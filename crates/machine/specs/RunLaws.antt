@@ -8,7 +8,8 @@ use Rattle.layout.specs.Limits.{mapWords}
 use Rattle.runs.specs.FreeListLaws.{list-first}
 use Rattle.marking.specs.Marking.{going, move, run, begin, collection}
 use Rattle.marking.specs.Invariant.{ahead, Still}
-use Rattle.marking.specs.InvariantLaws.{run-done, run-refused, Less, move-less, begin-holds, begin-ahead}
+use Rattle.marking.specs.InvariantLaws.{Less, move-less, begin-holds, begin-ahead}
+use Rattle.marking.specs.RunLaws.{run-done, run-refused}
 use Rattle.machine.specs.Machine.{pile, markingOf, outcomeOf, Ready, Moved, Begun, Ran}
 use Rattle.machine.specs.declared.Progress.{Progress}
 use Rattle.machine.specs.declared.Step.{Step}

@@ -1,6 +1,6 @@
 -- The invariant holds at the beginning, every move keeps it, and the moves come to an end.
 use Prim.Native.Nat.{ℕ, zero, suc, _+_, _-_, _*_, _/_, _≤_, _<_}
-use mathlib.Core.Path.{_≡_, refl, _∙_}
+use mathlib.Core.Path.{_≡_, _∙_}
 use mathlib.Core.Bool.{true, false}
 use mathlib.Core.List.{List, [], _∷_, _++_}
 use native.Mathlib.Nat.{mul-comm, mul-le-mul-right, le-div-iff-mul-le}
@@ -19,19 +19,8 @@ use Rattle.runs.specs.FreeListLaws.{list-listed, list-fits, list-cut}
 use Rattle.marking.specs.Marking.{Marking, Outcome, going, done, refused, marked, overlaps, meet, leaving, move, run, begin, collection}
 use Rattle.marking.specs.Meets.{New, Meets, empty, outside, again, ill-formed, overlapping, apart}
 use Rattle.marking.specs.Invariant.{behind, queue, Room, Invariant, ahead, Still, HasEnded}
+use Rattle.marking.specs.RunLaws.{run-keeps}
 use Rattle.marking.specs.MeetLaws.{overlaps-holds, meet-meets}
-
--- What is done stays so.
-pub run-done : (n : ℕ) (heap : List ℕ) (t : ℕ) (m : Marking) → run n heap t (done m) ≡ done m
-unfolding run
-run-done zero heap t m = refl
-run-done (suc n) heap t m = refl
-
--- What is refused stays so.
-pub run-refused : (n : ℕ) (heap : List ℕ) (t c r : ℕ) → run n heap t (refused c r) ≡ refused c r
-unfolding run
-run-refused zero heap t c r = refl
-run-refused (suc n) heap t c r = refl
 
 -- What holds where a collection goes on carries over to what follows from it.
 pub still : {P Q : Marking → Type 0} → ((m : Marking) → P m → Q m) → (o : Outcome) → Still P o → Still Q o
@@ -135,11 +124,7 @@ module _ (heap : List ℕ) (t : ℕ) (keeps : 1 ≤ t) where
 
     -- It holds at every moment.
     always : (n : ℕ) (o : Outcome) → Still (Invariant heap t roots) o → Still (Invariant heap t roots) (run n heap t o)
-    unfolding run
-    always zero o g = g
-    always (suc n) (going m) g = always n (move heap t m) (still (λ k x. x .0) (move heap t m) (move-less m g))
-    always (suc n) (done m) g = tt
-    always (suc n) (refused c r) g = tt
+    always = run-keeps heap t (Still (Invariant heap t roots)) (λ m g. still (λ k x. x .0) (move heap t m) (move-less m g))
 
     -- At every moment stack and list have room in their needed parts.
     pub always-room : (n : ℕ) → Still (λ (m : Marking). (length (m .stack) ≤ stackWords (length heap) t) × (2 * length (freeList t heap (m .map)) ≤ listWords (length heap) t)) (run n heap t (going (begin heap t roots)))

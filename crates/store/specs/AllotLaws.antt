@@ -11,7 +11,7 @@ use lib.Dec.{leb, lit<}
 use borrow.Author.Tests.{leb-true, ltb-true, ne-eqb}
 use Rattle.words.specs.Map.{setBit}
 use Rattle.layout.specs.Limits.{mapWords, roomsOf}
-use Rattle.layout.specs.LimitsLaws.{Limits, suitsBy, Suited, suits-tells, suited, suits-limits, bit-inside}
+use Rattle.layout.specs.LimitsLaws.{Limits, suitsBy, Suited, suits-tells, suited, suits-limits, two-fit, bit-inside}
 use Rattle.layout.specs.RefusalLaws.{no-refusal}
 use Rattle.layout.specs.declared.Interval.{Interval}
 use Rattle.layout.specs.declared.Rooms.{Rooms}
@@ -51,9 +51,7 @@ module _ (state : State) (heap map list : List ℕ) (s p : ℕ) {rooms : Rooms} 
     -- Else the needed parts are there, and what is left in them is left in front of the rest.
     module _ (long : Long true) where
       pub fits : (rooms .map ≤ length map) × (rooms .list ≤ length list)
-      fits =
-          let x = and-eq-true-iff (leb (rooms .map) (length map)) _ .0 long in
-          (leb-true (rooms .map) (length map) (x .0), leb-true (rooms .list) (length list) (x .1))
+      fits = two-fit map list long
 
       pub parts : Parts state heap (take (rooms .map) map) (take (rooms .list) list)
       parts = record {
