@@ -71,9 +71,13 @@ pub record Finds (heap : List ℕ) (t : ℕ) (roots : List ℕ) (answer : Collec
   -- The peak is the greatest number of intervals that were listed at once.
   pub peak : Peak heap t roots (answer .peak)
 
--- Demand 2: a collection succeeds exactly when all that is reached is sound; it has then found what it should, and a refusal names a reference that is at fault.
+-- Demand 2 of a collection's outcome.
 pub record Demand2 (heap : List ℕ) (t : ℕ) (roots : List ℕ) (out : Left) : Type 0 where
+  -- It succeeds exactly when all that is reached is sound.
   pub succeeds : (out .answer .code ≡ 0) ↔ Sound heap t roots
+  -- A success has found what is reached.
   pub finds : out .answer .code ≡ 0 → Finds heap t roots (out .answer) (out .map) (out .list)
+  -- A refusal names a reference that is at fault.
   pub refuses : out .answer .code ≢ 0 → Fault heap t roots (out .answer .code) (out .answer .place)
+  -- It is the first in marking order: at some moment the next move refuses so.
   pub first : out .answer .code ≢ 0 → (n : ℕ) × (m : Marking) × Moment heap t roots n m × (move heap t m ≡ refused (out .answer .code) (out .answer .place))
