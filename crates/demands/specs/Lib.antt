@@ -22,5 +22,6 @@ pub mod Demand1AllotHolds
 pub mod Demand1CollectHolds
 pub mod Demand2Holds
 pub mod SamenessHolds
+pub mod SamenessInnerHolds
 pub mod UnreadHolds
 pub mod ExamplesHold

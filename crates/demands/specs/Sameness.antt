@@ -5,7 +5,8 @@ use mathlib.Core.Logic.{_↔_}
 use mathlib.Core.List.{List}
 use contract.Lifetimes.{Lfts}
 use denote.Ref.{RefT}
-use denote.Triple.Clauses.{AtExit, atExit}
+use denote.Triple.Entry.{Args, Res}
+use denote.Triple.Clauses.{Ended, Lasts, AtExit, atExit}
 use borrow.Fn.Kinds.{Dens}
 use Rattle.layout.specs.SetUp.{Prepared}
 use Rattle.layout.specs.declared.Rooms.{Rooms}
@@ -135,3 +136,9 @@ module _ (κs : Lfts 1) (state : State) (list : Loan) where
   -- The contract of survey.
   abbrev pub surveyContract : Contract Surveyed
   surveyContract = record { asks = survey.Reads.Asked κs surveyBegin; allows = λ x. survey.Reads.Learnt κs surveyBegin x surveyEnd }
+
+-- The contracts of functions that only this project's own crates call, all at once: `learnt` is what such a contract allows, by its arguments, the result, and the parameters at exit.
+module _ (T : Ended) (learnt : (κs : Lfts (T .signature .lifetimes)) → Args (T .signature) κs → Res (T .signature) κs → AtExit T κs → Type 0) where
+  -- Two outcomes that a contract allows for one input are equal: the results, and the last words of each buffer lent to be changed.
+  abbrev pub Same : Type 0
+  Same = (κs : Lfts (T .signature .lifetimes)) (a : Args (T .signature) κs) (x y : Res (T .signature) κs × Lasts T κs a) → learnt κs a (x .0) (atExit T κs a (x .1)) → learnt κs a (y .0) (atExit T κs a (y .1)) → x ≡ y
