@@ -20,7 +20,7 @@ use Rattle.collector.specs.Collect.{settled}
 use Rattle.demands.specs.Reach.{Reach}
 use Rattle.demands.specs.Demand2.{Tells, Finds}
 use Rattle.demands.specs.Tracks.{Tracks}
-use Rattle.demands.specs.SettledLaws.{covered-tells, bits-tell, starts-tell, list-longest, list-swept, objects-sum, live-sum, references-sum}
+use Rattle.demands.specs.SettledLaws.{covered-tells, bits-tell, starts-tell, list-longest, list-swept, counts-sum}
 use Rattle.demands.specs.PeakLaws.{peak-is}
 
 -- A list shown in front of other words is read back.
@@ -66,6 +66,6 @@ module _ {heap : List ℕ} {t : ℕ} {roots : List ℕ} {m : Marking} (keeps : 1
         ordered = rw back (list-ordered t heap (m .map) keeps);
         swept = rw back (list-swept g);
         zeros = rw back (list-part past-list);
-        sums = λ reached tells. record { objects = objects-sum g tells; live = live-sum g tells; references = references-sum g tells };
+        sums = counts-sum g;
         peak = peak-is heap t roots over;
       }

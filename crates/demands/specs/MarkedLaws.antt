@@ -52,6 +52,7 @@ module _ (heap : List ℕ) (t : ℕ) (roots : List ℕ) where
 
     -- An object that is reached, new, well-formed and apart comes on the map.
     module _ {r : ℕ} (met : Reach heap t roots r) (new : New heap map r) (well : wellFormed heap t r ≡ true) (free : overlaps heap map r ≡ false) where
+      -- Its bit has a word on the map.
       here : r / 32 < length map
       here = rw (k .sized) (bit-inside (length heap) r (new .inside))
 
@@ -69,6 +70,7 @@ module _ (heap : List ℕ) (t : ℕ) (roots : List ℕ) where
       alone : (b : ℕ) → bitAt map b ≡ true → ¬ Overlap heap r b
       alone b e (x, y) = clash (owns b (max r b) e (omega arith) (omega (arith, formed heap t b (k .formed b e) .fewer))) (overlaps-none heap map r .0 free (max r b) (omega arith) (omega (arith, formed heap t r well .fewer)))
 
+      -- What is known of the map holds with it.
       pub marked-more : Marked heap t roots (setBit map r)
       marked-more = record {
         sized = length-setBit map r ∙ k .sized;

@@ -1,5 +1,5 @@
 -- What a collection that is done has found.
-use Prim.Native.Nat.{ℕ, _+_, _≤_, _<_}
+use Prim.Native.Nat.{ℕ, _≤_, _<_}
 use mathlib.Core.Path.{_≡_, refl, sym, _∙_}
 use mathlib.Core.Logic.{_≢_, _↔_, Iff·symm}
 use mathlib.Core.Bool.{Bool, true}
@@ -18,8 +18,9 @@ use Rattle.runs.specs.Lists.{Member, Longest}
 use Rattle.runs.specs.LongestLaws.{longest-same, runs-longest}
 use Rattle.runs.specs.CutLaws.{runs-agree}
 use Rattle.marking.specs.Marking.{Marking}
+use Rattle.collector.specs.Collect.{settled}
 use Rattle.demands.specs.Reach.{Reach, Live, Sound}
-use Rattle.demands.specs.Demand2.{Tells, total}
+use Rattle.demands.specs.Demand2.{Tells, total, Sums}
 use Rattle.demands.specs.TotalLaws.{tells-same, total-same}
 use Rattle.demands.specs.Tracks.{Named, a-root, a-field, Tracks}
 use Rattle.demands.specs.ReachLaws.{reach-least, reach-some}
@@ -79,15 +80,12 @@ module _ {heap : List ℕ} {t : ℕ} {roots : List ℕ} {m : Marking} (g : Track
   list-swept live tells = runs-agree t (length heap) live (covered heap (m .map)) (λ w lo hi. tells-same live-covered tells w)
 
   -- The counts are sums over what is reached, by any test that tells it, and the roots.
-  module _ {reached : ℕ → Bool} (tells : Tells reached (Reach heap t roots)) where
-    same-sum : (f : ℕ → ℕ) → total (bitAt (m .map)) f (length heap) ≡ total reached f (length heap)
-    same-sum f = total-same f (tells-same bits-tell tells) (length heap)
-
-    pub objects-sum : m .objects ≡ total reached (λ a. 1) (length heap)
-    objects-sum = g .counted .objects-are ∙ same-sum (λ a. 1)
-
-    pub live-sum : m .live ≡ total reached (sizeAt heap) (length heap)
-    live-sum = g .counted .live-is ∙ same-sum (sizeAt heap)
-
-    pub references-sum : m .references ≡ length roots + total reached (λ a. length (fieldsOf heap a)) (length heap)
-    references-sum = omega (arith, g .counted .references-are, same-sum (λ a. length (fieldsOf heap a)))
+  pub counts-sum : (reached : ℕ → Bool) → Tells reached (Reach heap t roots) → Sums heap roots reached (settled heap t m .answer)
+  counts-sum reached tells = record {
+    objects = g .counted .objects-are ∙ same (λ a. 1);
+    live = g .counted .live-is ∙ same (sizeAt heap);
+    references = omega (arith, g .counted .references-are, same (λ a. length (fieldsOf heap a)));
+  }
+    where
+      same : (f : ℕ → ℕ) → total (bitAt (m .map)) f (length heap) ≡ total reached f (length heap)
+      same f = total-same f (tells-same bits-tell tells) (length heap)

@@ -31,6 +31,7 @@ module _ (f : ℕ → ℕ) where
 
   -- The second test passes r as well, and else what the first one passes.
   module _ {p q : ℕ → Bool} {r : ℕ} (was : p r ≡ false) (is : q r ≡ true) (same : (a : ℕ) → a ≢ r → q a ≡ p a) where
+    -- Below r the sums are the same.
     total-below : (n : ℕ) → n ≤ r → total q f n ≡ total p f n
     unfolding total
     total-below zero l = refl
