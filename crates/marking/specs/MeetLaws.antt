@@ -26,7 +26,7 @@ use Rattle.marking.specs.Meets.{New, Meets, empty, outside, again, ill-f
 pub overlaps-some : (heap map : List ℕ) (r : ℕ) → overlaps heap map r ≡ true → (w : ℕ) × (r ≤ w) × (w < r + sizeAt heap r) × (covered heap map w ≡ true)
 unfolding overlaps
 overlaps-some heap map r e =
-    let x = below-some (sizeAt heap r) (λ i. covered heap map (r + i)) e in
+    let x = below-some _ (λ i. covered heap map (r + i)) e in
     (r + x .0, omega arith, omega (arith, x .1), x .2)
 
 -- An object overlaps none on the map if and only if all its words are free.
