@@ -70,15 +70,15 @@ module _ (state : State) (heap roots map stack list : List ℕ) {rooms : Rooms} 
     ok = suited state heap e (tells .0)
 
     -- The second test as the code makes it.
-    abbrev pub Lent : Bool → Type 0
-    Lent b = leb (rooms .map) (length map) && leb (rooms .stack) (length stack) && leb (rooms .list) (length list) ≡ b
+    abbrev pub Long : Bool → Type 0
+    Long b = leb (rooms .map) (length map) && leb (rooms .stack) (length stack) && leb (rooms .list) (length list) ≡ b
 
     -- With a short buffer it refuses with 2.
-    pub refuses-short : Lent false → left (collectRefused 2 0 state) map stack list ≡ collects state heap roots map stack list
+    pub refuses-short : Long false → left (collectRefused 2 0 state) map stack list ≡ collects state heap roots map stack list
     unfolding collects
     refuses-short short = rw (← suits-tells state heap e, test, ← ok .map-room, ← ok .stack-room, ← ok .list-room, short)
 
-    module _ (long : Lent true) where
+    module _ (long : Long true) where
       fits : (rooms .map ≤ length map) × (rooms .stack ≤ length stack) × (rooms .list ≤ length list)
       fits = three-fit map stack list long
 

@@ -4,9 +4,9 @@ use mathlib.Core.Path.{_≡_, refl}
 use mathlib.Core.Logic.{_≢_, _↔_}
 use mathlib.Core.List.{List, [], _∷_, List·Memᴰ, List·Memᴰ·head, List·Memᴰ·tail, Memᴰ·append-left, Memᴰ·append-right}
 use native.Mathlib.Omega.{arith}
-use lib.ListN.{length, drop}
+use lib.ListN.{length}
 use Rattle.layout.specs.Intervals.{shown}
-use Rattle.layout.specs.Limits.{mapWords, stackWords, listWords}
+use Rattle.layout.specs.Limits.{mapWords, listWords}
 use Rattle.layout.specs.LimitsLaws.{suits-limits}
 use Rattle.layout.specs.declared.Interval.{Interval}
 use Rattle.layout.specs.declared.State.{State}
@@ -22,7 +22,7 @@ use Rattle.demands.specs.Tracks.{Told}
 use Rattle.demands.specs.TracksLaws.{collection-told}
 use Rattle.demands.specs.ReachLaws.{fault-number, fault-above}
 use Rattle.demands.specs.RefusesLaws.{kept-same, kept-front, kept-clear, success, refusal}
-use Rattle.demands.specs.LentLaws.{inFront, lent-cases}
+use Rattle.demands.specs.LentLaws.{joined, lent-cases}
 
 module _ (state : State) (heap roots map stack list : List ℕ) where
   -- How many words the heap has.
@@ -74,12 +74,8 @@ module _ (state : State) (heap roots map stack list : List ℕ) where
       keeps-list = kept-clear list (given .list-room);
     }
 
-    -- What is left in the needed parts, in front of the rest.
-    abbrev joined : Left → Left
-    joined parts = inFront parts (drop (mapWords h) map) (drop (stackWords h t) stack) (drop (listWords h t) list)
-
     -- A collection that succeeds ends so.
-    ends-settled : (m : Marking) → length (m .map) ≡ mapWords (length heap) → Ends (joined (settled heap t m))
+    ends-settled : (m : Marking) → length (m .map) ≡ mapWords (length heap) → Ends (joined state map stack list (settled heap t m))
     ends-settled m long =
         let free : List Interval = freeList t heap (m .map) in
         let fits : 2 * length free ≤ listWords h t = rw same at (list-fits t heap (m .map) (suits-limits state heap (given .bounded .suit) .0 .keeps)) in
@@ -96,7 +92,7 @@ module _ (state : State) (heap roots map stack list : List ℕ) where
         }
 
     -- It ends so by what marking comes to.
-    ends-by : (o : Outcome) → Told heap t roots o → Ends (joined (settles heap t o))
+    ends-by : (o : Outcome) → Told heap t roots o → Ends (joined state map stack list (settles heap t o))
     ends-by (going m) g = ends-settled m (g .marked .sized)
     ends-by (done m) g = ends-settled m (g .marked .sized)
     ends-by (refused c r) f = rw same (ends-failed f)

@@ -19,13 +19,17 @@ use Rattle.demands.specs.Demand1.{lentRefused}
 abbrev pub inFront : Left → List ℕ → List ℕ → List ℕ → Left
 inFront parts map stack list = left (parts .answer) (parts .map ++ map) (parts .stack ++ stack) (parts .list ++ list)
 
+-- What is left in the needed parts, in front of what came behind them.
+abbrev pub joined : State → List ℕ → List ℕ → List ℕ → Left → Left
+joined state map stack list parts =
+    let h : ℕ = state .words in
+    let t : ℕ = state .keep in
+    inFront parts (drop (mapWords h) map) (drop (stackWords h t) stack) (drop (listWords h t) list)
+
 module _ (state : State) (heap roots map stack list : List ℕ) where
   -- A collection in the needed parts.
   abbrev pub inParts : Left
-  inParts =
-      let h : ℕ = state .words in
-      let t : ℕ = state .keep in
-      inFront (collectsIn heap t roots) (drop (mapWords h) map) (drop (stackWords h t) stack) (drop (listWords h t) list)
+  inParts = joined state map stack list (collectsIn heap (state .keep) roots)
 
   -- The test for 1.
   abbrev allowed : Bool
