@@ -46,9 +46,16 @@ pub record Peak (heap : List ℕ) (t : ℕ) (roots : List ℕ) (peak : ℕ) : Ty
   pub seen : (n : ℕ) × (m : Marking) × Moment heap t roots n m × (intervals heap t m ≡ peak)
   pub most : (n : ℕ) (m : Marking) → Moment heap t roots n m → intervals heap t m ≤ peak
 
--- The intervals of the list, as its words and its count give them.
-abbrev pub listOf : Collected → List ℕ → List Interval
-listOf answer list = records (answer .state .count) list
+-- The list of an h-word heap: its first `count` records are the intervals that it must have, and those behind are zero.
+pub record Lists (t h : ℕ) (Taken : ℕ → Type 0) (count : ℕ) (list : List ℕ) : Type 0 where
+  -- It has just the longest runs of words outside Taken that have t words or more.
+  pub longest : (i : Interval) → Member (records count list) i ↔ Longest t Taken 1 h i
+  -- It goes by address.
+  pub ordered : Ordered t 1 h 1 (records count list)
+  -- It is what mark-sweep's sweep gives, by any test for those words.
+  pub swept : (taken : ℕ → Bool) → Tells taken Taken → records count list ≡ runs t h taken
+  -- The records behind it are zero.
+  pub zeros : take (listWords h t) list ≡ shown (listWords h t) (records count list)
 
 -- What a collection that succeeds answers, and what it leaves in map and list.
 pub record Finds (heap : List ℕ) (t : ℕ) (roots : List ℕ) (answer : Collected) (map list : List ℕ) : Type 0 where
@@ -58,14 +65,8 @@ pub record Finds (heap : List ℕ) (t : ℕ) (roots : List ℕ) (answer : Collec
   pub bits : Tells (bitAt (take (mapWords (length heap)) map)) (Reach heap t roots)
   -- Just the words of objects that are reached lie in objects on the map.
   pub covers : Tells (covered heap map) (Live heap t roots)
-  -- The list has just the longest runs of words outside them that have t words or more.
-  pub longest : (i : Interval) → Member (listOf answer list) i ↔ Longest t (Live heap t roots) 1 (length heap) i
-  -- It goes by address.
-  pub ordered : Ordered t 1 (length heap) 1 (listOf answer list)
-  -- It is what mark-sweep's sweep gives, by any test for those words.
-  pub swept : (live : ℕ → Bool) → Tells live (Live heap t roots) → listOf answer list ≡ runs t (length heap) live
-  -- The records behind it are zero.
-  pub zeros : take (listWords (length heap) t) list ≡ shown (listWords (length heap) t) (listOf answer list)
+  -- The list has just the longest runs outside those words, as the sweep gives them.
+  pub lists : Lists t (length heap) (Live heap t roots) (answer .state .count) list
   -- The counts are sums over what is reached, by any test for it, and the roots.
   pub sums : (reached : ℕ → Bool) → Tells reached (Reach heap t roots) → Sums heap roots reached answer
   -- The peak is the greatest number of intervals that were listed at once.

@@ -3,7 +3,8 @@ use Prim.Native.Nat.{ℕ, _+_, _-_, _*_}
 use mathlib.Core.List.{List, [], _∷_, _++_}
 use lib.ListN.{length, take, drop, set, replicate}
 use Rattle.layout.specs.Limits.{mapWords, stackWords, listWords}
-use Rattle.demands.specs.World.{World, Call, allot, collect, survey, newWorld, after, answers, afterAll}
+use Rattle.demands.specs.World.{World, Call, allot, collect, survey, after, answers}
+use Rattle.demands.specs.History.{History, set-up, world, onward}
 
 -- An image: the heap's length, the keep length, and the words that are not 0, each with its address.
 pub record Image : Type 0 where
@@ -34,17 +35,17 @@ laid h (g ∷ given) = set (laid h given) (g .0) (g .1)
 abbrev pub junk : ℕ → List ℕ
 junk n = replicate n 9
 
--- The world that set-up leaves of an image, with buffers of just the needed lengths.
-unfoldable pub fresh : Image → World
+-- The set-up of an image, with buffers of just the needed lengths.
+unfoldable pub fresh : Image → History
 fresh i =
     let h : ℕ = i .words in
     let t : ℕ = i .keep in
-    newWorld (laid h (i .given)) t (junk (mapWords h)) (junk (stackWords h t)) (junk (listWords h t))
+    set-up (laid h (i .given)) t (junk (mapWords h)) (junk (stackWords h t)) (junk (listWords h t))
 
 -- What is seen of an example's last call.
 unfoldable pub seen : Example → Seen
 seen e =
-    let w : World = afterAll (fresh (e .image)) (e .before) in
+    let w : World = world (onward (fresh (e .image)) (e .before)) in
     let next : World = after w (e .last) in
     let used : ℕ = 2 * next .state .count in
     record { answer = answers w (e .last); map = next .map; list = take used (next .list); rest = drop used (next .list) ++ next .stack }

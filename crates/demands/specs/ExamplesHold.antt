@@ -16,14 +16,15 @@ use Rattle.marking.specs.Marking.{marked, overlaps, meet, move, run, begin, col
 use Rattle.collector.specs.Collect.{collectsIn, collects}
 use Rattle.store.specs.Allot.{askedCode, withObject, placed, allotsIn, allots}
 use Rattle.store.specs.Survey.{surveys}
-use Rattle.demands.specs.World.{newWorld, after, answers, afterAll}
+use Rattle.demands.specs.World.{newWorld, after, answers}
+use Rattle.demands.specs.History.{world, onward}
 use Rattle.demands.specs.Examples.{Example, laid, fresh, seen, table}
 
 -- Every example in the table gives what is expected.
 pub examples-hold : map seen table ≡ map Example.expected table
 unfolding
     table seen fresh laid
-    newWorld after answers afterAll
+    newWorld after answers world onward
     setsUp firstList within suits mapWords stackWords listRoom listWords flat shown
     collects collectsIn collection begin run move meet marked overlaps
     freeList runs runsFrom kept sizeAt refsAt wellFormed fieldsOf bitAt setBit isStart someBelow covered

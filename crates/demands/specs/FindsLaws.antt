@@ -1,32 +1,27 @@
 -- A collection that is done leaves in whole buffers what it has found.
-use Prim.Native.Nat.{ℕ, _-_, _*_, _≤_, _<_}
+use Prim.Native.Nat.{ℕ, _-_, _≤_, _<_}
 use mathlib.Core.Path.{_≡_, sym, ap, _∙_}
-use mathlib.Core.List.{List, [], _++_, append-assoc}
-use lib.ListN.{length, take, replicate}
+use mathlib.Core.List.{List, [], _++_}
+use lib.ListN.{length, take}
 use lib.Seq.{take-at}
 use Rattle.words.specs.Map.{bitAt, isStart}
 use Rattle.words.specs.MapLaws.{bit-take}
-use Rattle.layout.specs.Intervals.{flat, shown}
+use Rattle.layout.specs.Intervals.{shown}
 use Rattle.layout.specs.Limits.{mapWords, listWords}
 use Rattle.layout.specs.LimitsLaws.{bit-inside}
 use Rattle.layout.specs.declared.Interval.{Interval}
 use Rattle.runs.specs.Runs.{freeList}
-use Rattle.runs.specs.FreeListLaws.{list-ordered, list-fits}
+use Rattle.runs.specs.FreeListLaws.{list-fits}
 use Rattle.freelist.specs.Records.{records}
-use Rattle.freelist.specs.RecordsLaws.{flat-records}
-use Rattle.split.specs.RelistedLaws.{length-shown}
+use Rattle.split.specs.RelistedLaws.{length-shown, records-front}
 use Rattle.marking.specs.Marking.{Marking, done, collection}
 use Rattle.collector.specs.Collect.{settled}
 use Rattle.demands.specs.Reach.{Reach}
 use Rattle.demands.specs.Demand2.{Tells, Finds}
 use Rattle.demands.specs.Tracks.{Tracks}
-use Rattle.demands.specs.SettledLaws.{covered-tells, bits-tell, starts-tell, list-longest, list-swept, counts-sum}
+use Rattle.demands.specs.ListsLaws.{covered-tells, list-lists}
+use Rattle.demands.specs.SettledLaws.{bits-tell, starts-tell, live-covered, counts-sum}
 use Rattle.demands.specs.PeakLaws.{peak-is}
-
--- A list shown in front of other words is read back.
-records-front : (n : ℕ) (l : List Interval) (rest : List ℕ) → records (length l) (shown n l ++ rest) ≡ l
-unfolding shown
-records-front n l rest = ap (records (length l)) (append-assoc (flat l) (replicate (n - 2 * length l) 0) rest) ∙ flat-records l (replicate (n - 2 * length l) 0 ++ rest)
 
 module _ {heap : List ℕ} {t : ℕ} {roots : List ℕ} {m : Marking} (keeps : 1 ≤ t) (g : Tracks heap t roots [] m) where
   -- The free list.
@@ -60,12 +55,9 @@ module _ {heap : List ℕ} {t : ℕ} {roots : List ℕ} {m : Marking} (keeps : 1
       let back : records (length free) l ≡ free = records-front needed free past-list in
       record {
         starts = starts;
-        covers = covered-tells (m .map ++ past-map) starts;
+        covers = covered-tells heap (m .map ++ past-map) starts;
         bits = rw (map-part past-map) (bits-tell g);
-        longest = rw back (list-longest g keeps);
-        ordered = rw back (list-ordered t heap (m .map) keeps);
-        swept = rw back (list-swept g);
-        zeros = rw back (list-part past-list);
+        lists = list-lists heap (m .map) keeps (live-covered g) back (list-part past-list);
         sums = counts-sum g;
         peak = peak-is heap t roots over;
       }

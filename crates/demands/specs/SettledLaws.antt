@@ -1,7 +1,7 @@
 -- What a collection that is done has found.
-use Prim.Native.Nat.{ℕ, _≤_, _<_}
+use Prim.Native.Nat.{ℕ, _<_}
 use mathlib.Core.Path.{_≡_, refl, sym, _∙_}
-use mathlib.Core.Logic.{_≢_, _↔_, Iff·symm}
+use mathlib.Core.Logic.{_≢_}
 use mathlib.Core.Bool.{Bool, true}
 use mathlib.Core.List.{List, [], List·Memᴰ·not-nil}
 use mathlib.Mathlib.Data.Bool.Basic.{eq-true-of-not-eq-false}
@@ -11,26 +11,14 @@ use Rattle.words.specs.Header.{sizeAt, fieldsOf}
 use Rattle.words.specs.HeaderLaws.{Formed, formed}
 use Rattle.words.specs.Map.{bitAt, isStart, covered}
 use Rattle.words.specs.MapLaws.{start, is-start}
-use Rattle.words.specs.CoverLaws.{owner-covers, covered-owner}
-use Rattle.layout.specs.declared.Interval.{Interval}
-use Rattle.runs.specs.Runs.{freeList, runs}
-use Rattle.runs.specs.Lists.{Member, Longest}
-use Rattle.runs.specs.LongestLaws.{longest-same, runs-longest}
-use Rattle.runs.specs.CutLaws.{runs-agree}
 use Rattle.marking.specs.Marking.{Marking}
 use Rattle.collector.specs.Collect.{settled}
 use Rattle.demands.specs.Reach.{Reach, Live, Sound}
 use Rattle.demands.specs.Demand2.{Tells, total, Sums}
 use Rattle.demands.specs.TotalLaws.{tells-same, total-same}
+use Rattle.demands.specs.ListsLaws.{covered-tells}
 use Rattle.demands.specs.Tracks.{Named, a-root, a-field, Tracks}
 use Rattle.demands.specs.ReachLaws.{reach-least, reach-some}
-
--- Where just what is reached starts on the map, just its words are covered.
-pub covered-tells : {heap : List ℕ} {t : ℕ} {roots : List ℕ} (map : List ℕ) → Tells (isStart (length heap) map) (Reach heap t roots) → Tells (covered heap map) (Live heap t roots)
-covered-tells {heap} map starts w = (
-  λ e. let o = covered-owner heap map w e in (o .0, starts (o .0) .0 (o .1 .start), o .1 .low, o .1 .high),
-  λ (a, p, lo, hi). owner-covers heap map w a (record { start = starts a .1 p; low = lo; high = hi }),
-)
 
 module _ {heap : List ℕ} {t : ℕ} {roots : List ℕ} {m : Marking} (g : Tracks heap t roots [] m) where
   -- With nothing left to be read, whatever a root or an object on the map names is on the map.
@@ -64,20 +52,8 @@ module _ {heap : List ℕ} {t : ℕ} {roots : List ℕ} {m : Marking} (g : Track
   )
 
   -- Just the words of objects that are reached are covered.
-  live-covered : Tells (covered heap (m .map)) (Live heap t roots)
-  live-covered = covered-tells (m .map) (starts-tell (m .map) (λ a l. refl))
-
-  -- The list has just the longest runs outside what is reached.
-  pub list-longest : 1 ≤ t → (i : Interval) → Member (freeList t heap (m .map)) i ↔ Longest t (Live heap t roots) 1 (length heap) i
-  unfolding freeList
-  list-longest keeps i =
-      let x = runs-longest t (length heap) (covered heap (m .map)) i keeps in
-      (λ y. longest-same live-covered (x .0 y), λ y. x .1 (longest-same (λ w. Iff·symm (live-covered w)) y))
-
-  -- It is what the sweep gives, by any test that tells the words of objects that are reached.
-  pub list-swept : (live : ℕ → Bool) → Tells live (Live heap t roots) → freeList t heap (m .map) ≡ runs t (length heap) live
-  unfolding freeList
-  list-swept live tells = runs-agree t (length heap) live (covered heap (m .map)) (λ w lo hi. tells-same live-covered tells w)
+  pub live-covered : Tells (covered heap (m .map)) (Live heap t roots)
+  live-covered = covered-tells heap (m .map) (starts-tell (m .map) (λ a l. refl))
 
   -- The counts are sums over what is reached, by any test that tells it, and the roots.
   pub counts-sum : (reached : ℕ → Bool) → Tells reached (Reach heap t roots) → Sums heap roots reached (settled heap t m .answer)

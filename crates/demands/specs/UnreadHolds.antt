@@ -1,22 +1,22 @@
 -- No call goes by the words past a needed part, and a collection goes by no word of its buffers.
 use Prim.Native.Nat.{ℕ, _≤_}
 use mathlib.Core.Path.{_≡_, refl, sym, ap, _∙_}
-use mathlib.Core.Bool.{Bool, true, false, _&&_, cond, and-false}
+use mathlib.Core.Bool.{Bool, true, false, _&&_, cond}
 use mathlib.Core.List.{List, _++_}
 use native.Mathlib.Omega.{arith}
 use lib.ListN.{length, take, drop, replicate, length-append, length-drop, length-replicate}
 use lib.Seq.{take-at, length-take-le}
-use lib.Dec.{leb, ltb, eqb, lit<}
-use borrow.Author.Tests.{ltb-true, eqb-true}
-use Rattle.words.specs.Map.{bitAt, isStart}
-use Rattle.words.specs.MapLaws.{bit-take}
+use lib.Dec.{leb, eqb, lit<}
+use borrow.Author.Tests.{eqb-true}
+use Rattle.words.specs.Map.{isStart}
 use Rattle.layout.specs.Intervals.{shown}
 use Rattle.layout.specs.Limits.{within, suits, mapWords, stackWords, listWords}
-use Rattle.layout.specs.LimitsLaws.{limits, suits-limits, bit-inside, two-fit}
+use Rattle.layout.specs.LimitsLaws.{limits, suits-limits, two-fit}
 use Rattle.layout.specs.RefusalLaws.{no-refusal}
 use Rattle.layout.specs.SetUp.{prepared, firstList, setsUp}
 use Rattle.layout.specs.declared.SetUp.{SetUp}
 use Rattle.layout.specs.declared.State.{State}
+use Rattle.runs.specs.CoverLaws.{start-take}
 use Rattle.collector.specs.Collect.{Left, collectsIn, collects}
 use Rattle.store.specs.Allot.{Allotment, allotment, allotsIn, allots}
 use Rattle.store.specs.Fields.{fieldCode, objectCode, reads, takes, writes}
@@ -41,15 +41,6 @@ alike-front {n} {one} {other} front e a = record {
   long = omega (arith, length-append front (drop n one), length-append front (drop n other), length-drop n one, length-drop n other, a .long);
   front = take-at front (drop n one) n e ∙ sym (take-at front (drop n other) n e);
 }
-
--- A start on the map is one on its needed part.
-start-take : (h : ℕ) (map : List ℕ) (a : ℕ) → isStart h (take (mapWords h) map) a ≡ isStart h map a
-unfolding isStart
-start-take h map a = go (ltb a h) refl
-  where
-    go : (inside : Bool) → ltb a h ≡ inside → (ltb 0 a && inside) && bitAt (take (mapWords h) map) a ≡ (ltb 0 a && inside) && bitAt map a
-    go true e = rw (bit-take (mapWords h) map a (bit-inside h a (ltb-true a h e)))
-    go false e = rw (and-false (ltb 0 a))
 
 -- Set-up.
 module _ (heap : List ℕ) (t : ℕ) {map map′ list list′ : List ℕ} (am : Alike (mapWords (length heap)) map map′) (al : Alike (listWords (length heap) t) list list′) where

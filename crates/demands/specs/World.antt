@@ -1,12 +1,13 @@
--- Calls one after the other: what each gets, what it answers, and what it leaves to the next.
+-- The world that calls act on: what each gets, what it answers, and what it leaves.
 use Prim.Native.Nat.{ℕ}
 use mathlib.Core.List.{List, [], _∷_}
+use lib.ListN.{getD}
 use Rattle.layout.specs.SetUp.{Prepared, setsUp}
 use Rattle.layout.specs.declared.State.{State}
 use Rattle.collector.specs.Collect.{Left, collects}
 use Rattle.collector.specs.declared.Collected.{Collected}
 use Rattle.store.specs.Allot.{Allotment, allots}
-use Rattle.store.specs.Fields.{Written, reads, writes}
+use Rattle.store.specs.Fields.{wordOf, Written, reads, writes}
 use Rattle.store.specs.Survey.{surveys}
 use Rattle.store.specs.declared.allots.Allotted.{Allotted}
 use Rattle.store.specs.declared.fields.Reading.{Reading}
@@ -19,6 +20,10 @@ pub record World : Type 0 where
   pub map : List ℕ
   pub stack : List ℕ
   pub list : List ℕ
+
+-- What stands in field k of the object at a.
+abbrev pub fieldAt : World → ℕ → ℕ → ℕ
+fieldAt w a k = getD (w .heap) (wordOf a k) 0
 
 -- The world that set-up leaves of a heap, a keep length, and a map, a stack and a list that are lent.
 unfoldable pub newWorld : List ℕ → ℕ → List ℕ → List ℕ → List ℕ → World
@@ -73,8 +78,3 @@ answers w (collect roots) =
 answers w survey =
     let answer : Surveyed = surveys (w .state) (w .list) in
     answer .code ∷ answer .figures .listed ∷ answer .figures .largest ∷ answer .figures .fragment ∷ []
-
--- The world that calls leave, made one after the other.
-unfoldable pub afterAll : World → List Call → World
-afterAll w [] = w
-afterAll w (c ∷ calls) = afterAll (after w c) calls

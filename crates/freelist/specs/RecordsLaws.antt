@@ -121,3 +121,8 @@ valid-ordered h t n list e =
     let x = and-eq-true-iff _ _ .0 e in
     let room : n ≤ listRoom h t = leb-true n (listRoom h t) (x .0) in
     (omega (arith, room), order-ordered t h (records n list) .0 (x .1))
+
+-- A list whose intervals are in order passes, where its count is not above the room.
+pub ordered-valid : (h t n : ℕ) (list : List ℕ) → 2 * n ≤ listWords h t → Ordered t 1 h 1 (records n list) → validList h t n list ≡ true
+unfolding validList listWords
+ordered-valid h t n list room o = rw (le-leb n (listRoom h t) (omega arith)) (order-ordered t h (records n list) .1 o)

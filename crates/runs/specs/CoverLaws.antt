@@ -2,16 +2,19 @@
 use Prim.Native.Nat.{ℕ, zero, suc, _+_, _-_, _/_, _≤_, _<_}
 use mathlib.Core.Path.{_≡_, refl, ap₂}
 use mathlib.Core.Logic.{_≢_}
-use mathlib.Core.Bool.{Bool, true, _||_, and-false}
+use mathlib.Core.Bool.{Bool, true, false, _&&_, _||_, and-false}
 use mathlib.Core.List.{List}
 use native.Mathlib.Omega.{arith}
 use native.Mathlib.Decide.{decLe, ℕ-discrete}
-use lib.ListN.{length}
-use borrow.Author.Tests.{le-ltb}
+use lib.ListN.{length, take}
+use lib.Dec.{ltb}
+use borrow.Author.Tests.{ltb-true, le-ltb}
 use Rattle.words.specs.Header.{sizeAt}
-use Rattle.words.specs.Map.{setBit, isStart, someBelow, covered}
-use Rattle.words.specs.MapLaws.{bit-same, bit-other, is-start}
+use Rattle.words.specs.Map.{bitAt, setBit, isStart, someBelow, covered}
+use Rattle.words.specs.MapLaws.{bit-same, bit-other, bit-take, is-start}
 use Rattle.words.specs.CoverLaws.{owner-covers, covered-owner}
+use Rattle.layout.specs.Limits.{mapWords}
+use Rattle.layout.specs.LimitsLaws.{bit-inside}
 use Rattle.runs.specs.Covers.{Marks, Thick}
 use Rattle.runs.specs.LongestLaws.{clash}
 
@@ -22,9 +25,18 @@ below-same zero p q f = refl
 below-same (suc n) p q f = ap₂ _||_ (f n (omega arith)) (below-same n p q (λ i h. f i (omega arith)))
 
 -- The starts on the map stay, but for the one that is set.
-start-other : (h : ℕ) (map : List ℕ) (r a : ℕ) → a ≢ r → isStart h (setBit map r) a ≡ isStart h map a
+pub start-other : (h : ℕ) (map : List ℕ) (r a : ℕ) → a ≢ r → isStart h (setBit map r) a ≡ isStart h map a
 unfolding isStart
 start-other h map r a other = rw (bit-other map r a other)
+
+-- A start on the map is one on its needed part.
+pub start-take : (h : ℕ) (map : List ℕ) (a : ℕ) → isStart h (take (mapWords h) map) a ≡ isStart h map a
+unfolding isStart
+start-take h map a = go (ltb a h) refl
+  where
+    go : (inside : Bool) → ltb a h ≡ inside → (ltb 0 a && inside) && bitAt (take (mapWords h) map) a ≡ (ltb 0 a && inside) && bitAt map a
+    go true e = rw (bit-take (mapWords h) map a (bit-inside h a (ltb-true a h e)))
+    go false e = rw (and-false (ltb 0 a))
 
 -- An object that comes on the map covers its words, and no other.
 pub covered-marks : (heap map : List ℕ) (r : ℕ) → 0 < r → r < length heap → r / 32 < length map → Marks (covered heap map) (covered heap (setBit map r)) r (sizeAt heap r)

@@ -2,12 +2,13 @@
 use Prim.Native.Nat.{ℕ, _+_, _-_, _*_, _/_, _≤_, _<_}
 use mathlib.Core.Path.{_≡_}
 use mathlib.Core.Logic.{_↔_}
+use mathlib.Core.Bool.{true}
 use mathlib.Core.List.{List}
 use native.Mathlib.Omega.{arith}
 use lib.ListN.{length, replicate}
 use Rattle.words.specs.Header.{sizeAt}
-use Rattle.words.specs.Map.{setBit, covered}
-use Rattle.words.specs.CoverLaws.{covered-zeros}
+use Rattle.words.specs.Map.{setBit, isStart, covered}
+use Rattle.words.specs.CoverLaws.{covered-zeros, covered-same}
 use Rattle.layout.specs.Limits.{listWords}
 use Rattle.layout.specs.SetUp.{firstList}
 use Rattle.runs.specs.Runs.{freeList}
@@ -15,7 +16,7 @@ use Rattle.runs.specs.Covers.{Free}
 use Rattle.runs.specs.Lists.{In, Holds, Ordered, cut, listed}
 use Rattle.runs.specs.LongestLaws.{runs-holds}
 use Rattle.runs.specs.OrderLaws.{runs-ordered}
-use Rattle.runs.specs.CutLaws.{runs-first, runs-cut}
+use Rattle.runs.specs.CutLaws.{runs-agree, runs-first, runs-cut}
 use Rattle.runs.specs.SumLaws.{runs-listed, runs-count}
 use Rattle.runs.specs.CoverLaws.{covered-marks}
 
@@ -23,6 +24,12 @@ use Rattle.runs.specs.CoverLaws.{covered-marks}
 pub list-first : (k : ℕ) (heap : List ℕ) (n : ℕ) → freeList k heap (replicate n 0) ≡ firstList (length heap) k
 unfolding freeList
 list-first k heap n = runs-first k (length heap) (covered heap (replicate n 0)) (λ w lo hi. covered-zeros heap n w)
+
+-- The list goes by the starts on the map and by the sizes of their objects.
+pub list-same : (k : ℕ) (heap heap′ map map′ : List ℕ) → length heap′ ≡ length heap → ((a : ℕ) → isStart (length heap′) map′ a ≡ isStart (length heap) map a) → ((a : ℕ) → isStart (length heap) map a ≡ true → sizeAt heap′ a ≡ sizeAt heap a) → freeList k heap′ map′ ≡ freeList k heap map
+unfolding freeList
+list-same k heap heap′ map map′ long starts sizes =
+    rw long (runs-agree k (length heap) (covered heap map) (covered heap′ map′) (λ w lo hi. covered-same heap heap′ map map′ starts sizes w))
 
 module _ (k : ℕ) (heap map : List ℕ) where
   -- Its intervals have no more words than the heap has behind word 0.

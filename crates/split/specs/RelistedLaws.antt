@@ -57,6 +57,11 @@ pub records-shown : (room : ℕ) (l : List Interval) → records (length l) (sho
 unfolding shown
 records-shown room l = flat-records l (replicate (room - 2 * length l) 0)
 
+-- So it is with other words behind.
+pub records-front : (room : ℕ) (l : List Interval) (rest : List ℕ) → records (length l) (shown room l ++ rest) ≡ l
+unfolding shown
+records-front room l rest = ap (records (length l)) (append-assoc (flat l) (replicate (room - 2 * length l) 0) rest) ∙ flat-records l (replicate (room - 2 * length l) 0 ++ rest)
+
 -- Copies of one word, cut and joined.
 drop-copies : (n k all x : ℕ) → all ≡ n + k → drop n (replicate all x) ≡ replicate k x
 drop-copies n k all x e = rw (e, ← replicate-append-replicate n k x) (drop-at (replicate n x) (replicate k x) n (length-replicate n x))

@@ -86,6 +86,7 @@ pub record Ready (state : State) (heap map list : List ℕ) (s p : ℕ) : Type 0
   pub bits : length map ≡ mapWords (state .words)
   pub room : 2 * state .count ≤ length list
   pub ordered : Ordered (state .keep) 1 (state .words) 1 (records (state .count) list)
+  pub least : state .keep ≤ s
   pub small : s ≤ 65535
   pub fewer : p < s
 
@@ -113,13 +114,15 @@ module _ {state : State} {heap map list : List ℕ} (z : Parts state heap map li
         let own = suits-limits state heap (z .suit) in
         let o = valid-ordered h t (state .count) list (v .0) in
         let able = and-eq-true-iff (leb t s && leb s 65535) _ .0 (q .0) in
+        let sizes = and-eq-true-iff (leb t s) _ .0 (able .0) in
         record {
           limits = own .0;
           same = own .1;
           bits = z .map-size;
           room = omega (arith, o .0, z .list-size);
           ordered = o .1;
-          small = leb-true s 65535 (and-eq-true-iff (leb t s) _ .0 (able .0) .1);
+          least = leb-true t s (sizes .0);
+          small = leb-true s 65535 (sizes .1);
           fewer = ltb-true p s (able .1);
         }
 

@@ -1,16 +1,16 @@
 -- Laws of read and write.
-use Prim.Native.Nat.{ℕ, suc, _+_, _-_, _*_, _≤_, _<_}
-use mathlib.Core.Path.{_≡_, sym, ap, _∙_}
+use Prim.Native.Nat.{ℕ, zero, suc, _+_, _-_, _*_, _≤_, _<_}
+use mathlib.Core.Path.{_≡_, refl, sym, ap, _∙_}
 use mathlib.Core.Logic.{_≢_}
 use mathlib.Core.Bool.{Bool, true, false}
-use mathlib.Core.List.{List}
+use mathlib.Core.List.{List, [], _∷_, List·Memᴰ, List·Memᴰ·head, List·Memᴰ·tail, Memᴰ·cast}
 use native.Mathlib.Omega.{arith}
 use lib.ListN.{length, getD, drop, set}
 use lib.Seq.{getD-take, getD-drop}
 use lib.Dec.{leb, ltb, lit<}
 use borrow.Author.Tests.{leb-true, ltb-true, lt-ltb, le-ltb, le-leb, lt-leb, ne-eqb}
 use Rattle.words.specs.Header.{sizeAt, refsAt, headerAt, wellFormed, fieldsOf}
-use Rattle.words.specs.HeaderLaws.{Formed, formed}
+use Rattle.words.specs.HeaderLaws.{Formed, formed, length-fields}
 use Rattle.words.specs.Map.{isStart}
 use Rattle.words.specs.declared.header.Header.{Header}
 use Rattle.layout.specs.Limits.{maxWords, suits, mapWords, roomsOf}
@@ -49,15 +49,18 @@ module _ (heap : List ℕ) (t : ℕ) (map : List ℕ) (a k : ℕ) where
       unfolding objectCode
       has-field has = rw (starts, good, lt-ltb k (sizeAt heap a - 1) (rw e at has))
 
--- A field of a well-formed object lies in the heap.
-field-there : (heap : List ℕ) (t : ℕ) (map : List ℕ) (a k : ℕ) → objectCode heap t map a k ≡ 0 → wordOf a k < length heap
+-- Where it is 0, a well-formed object starts there, and has the field.
+pub object-field : (heap : List ℕ) (t : ℕ) (map : List ℕ) (a k : ℕ) → objectCode heap t map a k ≡ 0 → (isStart (length heap) map a ≡ true) × (wellFormed heap t a ≡ true) × (k < sizeAt heap a - 1)
 unfolding objectCode
-field-there heap t map a k e =
+object-field heap t map a k e =
     let x = no-refusal (isStart (length heap) map a) 9 _ (lit< tt) e in
     let y = no-refusal (wellFormed heap t a) 5 _ (lit< tt) (x .1) in
     let z = no-refusal (ltb k (sizeAt heap a - 1)) 10 0 (lit< tt) (y .1) in
-    let f : Formed heap t a = formed heap t a (y .0) in
-    omega (arith, f .ends, ltb-true k (sizeAt heap a - 1) (z .0))
+    (x .0, y .0, ltb-true k (sizeAt heap a - 1) (z .0))
+
+-- A field of a well-formed object lies in the heap.
+pub field-there : {heap : List ℕ} {t a k : ℕ} → Formed heap t a → k < sizeAt heap a - 1 → wordOf a k < length heap
+field-there f has = omega (arith, f .ends, has)
 
 -- The number, one test at a time, where the room figures are worked out.
 module _ (state : State) (heap map : List ℕ) (a k : ℕ) {rooms : Rooms} (e : rooms ≡ roomsOf (state .words) (state .keep)) where
@@ -95,7 +98,8 @@ module _ (state : State) (heap map : List ℕ) (a k : ℕ) {code : ℕ} (e : cod
       let y = no-refusal (leb (mapWords h) (length map)) 2 _ (lit< tt) (x .1) in
       let l = suits-limits state heap (x .0) in
       let enough : h ≤ 32 * length map = bits-enough h (length map) (leb-true (mapWords h) (length map) (y .0)) in
-      record { few = omega (arith, l); bits = omega (arith, l); there = field-there heap (state .keep) map a k (y .1) }
+      let z = object-field heap (state .keep) map a k (y .1) in
+      record { few = omega (arith, l); bits = omega (arith, l); there = field-there (formed heap (state .keep) a (z .1)) (z .2) }
 
   -- A read is refused with any other, and else it gives the word.
   pub read-refused : code ≢ 0 → record { code = code; value = 0 } ≡ reads state heap map a k
@@ -120,9 +124,36 @@ module _ (state : State) (heap map : List ℕ) (a k : ℕ) {code : ℕ} (e : cod
     unfolding writes
     write-stored z t b = rw (← e, z, ← t, b)
 
+-- What a reference field may be given is 0 or a start on the map.
+pub takes-start : (heap map : List ℕ) (a k v : ℕ) → takes heap map a k v ≡ true → k < refsAt heap a → v ≢ 0 → isStart (length heap) map v ≡ true
+unfolding takes
+takes-start heap map a k v taken inside some = rw (lt-leb (refsAt heap a) k inside, ne-eqb v 0 some) at taken
+
 -- A reference field is the one that marking reads.
 pub reference-field : (heap : List ℕ) (a k : ℕ) → k < refsAt heap a → getD (fieldsOf heap a) k 0 ≡ getD heap (wordOf a k) 0
 unfolding fieldsOf
 reference-field heap a k inside =
     let next : suc a + k ≡ wordOf a k = omega arith in
     getD-take (refsAt heap a) (drop (suc a) heap) k 0 inside ∙ getD-drop (suc a) heap k 0 ∙ ap (λ (n : ℕ). getD heap n 0) next
+
+-- A member of a list stands at some place of it.
+member-place : {r : ℕ} {l : List ℕ} → List·Memᴰ r l → (k : ℕ) × (k < length l) × (getD l k 0 ≡ r)
+member-place (List·Memᴰ·head e) = (0, omega arith, sym e)
+member-place (List·Memᴰ·tail m) = let p = member-place m in (suc (p .0), omega arith, p .2)
+
+-- What stands at a place of a list is a member of it.
+place-member : (l : List ℕ) (k : ℕ) → k < length l → List·Memᴰ (getD l k 0) l
+place-member [] k there = absurd (omega arith)
+place-member (x ∷ l) zero there = List·Memᴰ·head refl
+place-member (x ∷ l) (suc k) there = List·Memᴰ·tail (place-member l k (omega arith))
+
+-- The references of a well-formed object are the words of its reference fields …
+pub member-field : {heap : List ℕ} {t a r : ℕ} → Formed heap t a → List·Memᴰ r (fieldsOf heap a) → (k : ℕ) × (k < refsAt heap a) × (getD heap (wordOf a k) 0 ≡ r)
+member-field {heap} {t} {a} f m =
+    let p = member-place m in
+    let there : p .0 < refsAt heap a = rw (length-fields heap t a f) at (p .1) in
+    (p .0, there, sym (reference-field heap a (p .0) there) ∙ p .2)
+
+-- … all of them.
+pub field-member : {heap : List ℕ} {t a : ℕ} → Formed heap t a → (k : ℕ) → k < refsAt heap a → List·Memᴰ (getD heap (wordOf a k) 0) (fieldsOf heap a)
+field-member {heap} {t} {a} f k there = Memᴰ·cast (sym (reference-field heap a k there)) (place-member (fieldsOf heap a) k (rw (length-fields heap t a f) there))

@@ -57,3 +57,21 @@ pub covered-zeros : (heap : List ℕ) (n w : ℕ) → covered heap (replicate n 
 covered-zeros heap n w =
     eq-false-of-not-eq-true
     (λ e. let o = covered-owner heap (replicate n 0) w e in false≢true (sym (bit-zeros n (o .0)) ∙ start (length heap) (replicate n 0) (o .0) (o .1 .start) .bit))
+
+-- Covered words stay so where the starts on the map stay, with the sizes of their objects.
+covered-stays : (heap heap′ map map′ : List ℕ) → ((a : ℕ) → isStart (length heap) map a ≡ true → (isStart (length heap′) map′ a ≡ true) × (sizeAt heap′ a ≡ sizeAt heap a)) → (w : ℕ) → covered heap map w ≡ true → covered heap′ map′ w ≡ true
+covered-stays heap heap′ map map′ stay w e =
+    let o = covered-owner heap map w e in
+    let s = stay (o .0) (o .1 .start) in
+    owner-covers heap′ map′ w (o .0) (record { start = s .0; low = o .1 .low; high = omega arith })
+
+-- Covered words go by the starts on the map and by the sizes of their objects.
+pub covered-same : (heap heap′ map map′ : List ℕ) → ((a : ℕ) → isStart (length heap′) map′ a ≡ isStart (length heap) map a) → ((a : ℕ) → isStart (length heap) map a ≡ true → sizeAt heap′ a ≡ sizeAt heap a) → (w : ℕ) → covered heap′ map′ w ≡ covered heap map w
+covered-same heap heap′ map map′ starts sizes w =
+    go (covered heap map w) (covered heap′ map′ w)
+    (covered-stays heap heap′ map map′ (λ a e. (starts a ∙ e, sizes a e)) w)
+    (covered-stays heap′ heap map′ map (λ a e. let s = sym (starts a) ∙ e in (s, sym (sizes a s))) w)
+  where
+    go : (b c : Bool) → (b ≡ true → c ≡ true) → (c ≡ true → b ≡ true) → c ≡ b
+    go true c p q = p refl
+    go false c p q = eq-false-of-not-eq-true (λ e. false≢true (q e))

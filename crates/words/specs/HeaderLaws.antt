@@ -1,6 +1,6 @@
 -- Laws of headers.
 use Prim.Native.Nat.{ℕ, suc, _+_, _/_, _%_, _≤_, _<_}
-use mathlib.Core.Path.{_≡_}
+use mathlib.Core.Path.{_≡_, ap}
 use mathlib.Core.Bool.{true, and-eq-true-iff}
 use mathlib.Core.List.{List}
 use native.Mathlib.Nat.{mod-lt}
@@ -9,7 +9,8 @@ use lib.ListN.{length, getD, drop, length-drop}
 use lib.Seq.{length-take-le}
 use lib.Dec.{lit<}
 use borrow.Author.Tests.{leb-true, ltb-true, le-leb, lt-ltb}
-use Rattle.words.specs.Header.{sizeAt, refsAt, headerWord, wellFormed, fieldsOf}
+use Rattle.words.specs.Header.{sizeAt, refsAt, headerAt, headerWord, wellFormed, fieldsOf}
+use Rattle.words.specs.declared.header.Header.{Header}
 
 -- A size has 16 bits.
 pub size-small : (heap : List ℕ) (a : ℕ) → sizeAt heap a < 65536
@@ -46,3 +47,23 @@ module _ (heap : List ℕ) (t a : ℕ) where
     pub length-fields : length (fieldsOf heap a) ≡ refsAt heap a
     unfolding fieldsOf
     length-fields = length-take-le (refsAt heap a) (drop (suc a) heap) (simp length-drop (omega arith))
+
+-- Equal headers have one size, and one number of references.
+pub equal-size : {x y : Header} → x ≡ y → x .size ≡ y .size
+equal-size = ap (λ (h : Header). h .size)
+
+pub equal-refs : {x y : Header} → x ≡ y → x .refs ≡ y .refs
+equal-refs = ap (λ (h : Header). h .refs)
+
+-- A header goes by its word.
+pub header-same : (heap heap′ : List ℕ) (a : ℕ) → getD heap′ a 0 ≡ getD heap a 0 → headerAt heap′ a ≡ headerAt heap a
+unfolding sizeAt refsAt
+header-same heap heap′ a e = rw e
+
+-- Whether an object is well-formed goes by its header and the heap's length.
+pub formed-same : (heap heap′ : List ℕ) (t a : ℕ) → headerAt heap′ a ≡ headerAt heap a → length heap′ ≡ length heap → wellFormed heap t a ≡ true → wellFormed heap′ t a ≡ true
+unfolding wellFormed
+formed-same heap heap′ t a e long well =
+    let size : sizeAt heap′ a ≡ sizeAt heap a = equal-size e in
+    let refs : refsAt heap′ a ≡ refsAt heap a = equal-refs e in
+    rw (size, refs, long) well

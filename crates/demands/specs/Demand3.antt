@@ -1,0 +1,57 @@
+-- Demand 3: what stands after every call of a history, said of the objects that are held.
+use Prim.Native.Nat.{ℕ, _-_, _<_}
+use mathlib.Core.Path.{_≡_}
+use mathlib.Core.Logic.{_≢_, _↔_}
+use mathlib.Core.Bool.{true, false}
+use mathlib.Core.List.{List, [], _∷_, List·Memᴰ}
+use lib.ListN.{length, take}
+use Rattle.words.specs.Header.{headerAt}
+use Rattle.words.specs.Map.{bitAt, isStart}
+use Rattle.layout.specs.Limits.{mapWords}
+use Rattle.layout.specs.declared.Interval.{Interval}
+use Rattle.runs.specs.Lists.{Longest}
+use Rattle.store.specs.Allot.{askable}
+use Rattle.demands.specs.Reach.{InObject, Objects}
+use Rattle.demands.specs.Lent.{Lent}
+use Rattle.demands.specs.Demand2.{Tells, Lists}
+use Rattle.demands.specs.World.{fieldAt, allotsOn, collectsOn}
+use Rattle.demands.specs.History.{History, world, keepOf, Rooted, Held, allottedAs, lastWritten}
+
+-- Word w lies in an object that is held.
+abbrev pub InHeld : History → ℕ → Type 0
+InHeld past = InObject (world past .heap) (Held past)
+
+-- The interval i is a longest run of words outside the objects that are held, and has the keep length.
+abbrev pub FreeRun : History → Interval → Type 0
+FreeRun past = Longest (keepOf past) (InHeld past) 1 (length (world past .heap))
+
+-- How an allot of s words with p references answers, whose number is `code`.
+pub record AllotAnswers (past : History) (s p code : ℕ) : Type 0 where
+  -- It refuses with 7 exactly where no such object may be asked for.
+  pub unasked : (code ≡ 7) ↔ (askable (keepOf past) s p ≡ false)
+  -- It lacks room, which is 8, exactly where one may be asked for and no such run has s words.
+  pub lacks : (code ≡ 8) ↔ (askable (keepOf past) s p ≡ true) × ((i : Interval) → FreeRun past i → i .size < s)
+  -- It has no other number but 0.
+  pub others : code ≢ 0 → List·Memᴰ code (7 ∷ 8 ∷ [])
+
+-- Demand 3 of a history.
+pub record Demand3 (past : History) : Type 0 where
+  -- The map holds just the objects that are held: those allotted and not since found unreachable.
+  pub starts : Tells (isStart (length (world past .heap)) (world past .map)) (Held past)
+  -- Just their bits are set in its needed words.
+  pub bits : Tells (bitAt (take (mapWords (length (world past .heap))) (world past .map))) (Held past)
+  -- They are well-formed, and disjoint.
+  pub objects : Objects (world past .heap) (keepOf past) (Held past)
+  -- Their headers are those allotted.
+  pub headers : (a : ℕ) → Held past a → headerAt (world past .heap) a ≡ allottedAs past a
+  -- Their words are those last written.
+  pub words : (a k : ℕ) → Held past a → k < allottedAs past a .size - 1 → fieldAt (world past) a k ≡ lastWritten past a k
+  -- The list is every longest run outside them that has the keep length, with zeros behind it.
+  pub lists : Lists (keepOf past) (length (world past .heap)) (InHeld past) (world past .state .count) (world past .list)
+  -- No collection is refused.
+  pub collects : (roots : List ℕ) → Rooted (world past) roots → collectsOn (world past) roots .answer .code ≡ 0
+  -- Allotting lacks room only if no such run fits.
+  pub allots : (s p : ℕ) → AllotAnswers past s p (allotsOn (world past) s p .answer .code)
+  -- The keep length is that of set-up, and all that is lent is within the limits still.
+  pub keep : world past .state .keep ≡ keepOf past
+  pub lent : Lent (world past .state) (world past .heap) [] (world past .map) (world past .stack) (world past .list)

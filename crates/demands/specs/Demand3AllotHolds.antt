@@ -1,0 +1,204 @@
+-- Demand 3: an allot in a world that stands.
+use Prim.Native.Nat.{ℕ, _+_, _-_, _*_, _≤_, _<_}
+use mathlib.Core.Path.{_≡_, refl, sym}
+use mathlib.Core.Logic.{_≢_, _↔_, _⊎_, inl, inr}
+use mathlib.Core.Bool.{Bool, true, false, _&&_}
+use mathlib.Core.List.{List, [], _∷_, _++_, List·Memᴰ, List·Memᴰ·head, List·Memᴰ·tail}
+use native.Mathlib.Omega.{arith}
+use lib.ListN.{length, getD, take, drop, take-append-drop}
+use lib.Seq.{length-take-le}
+use lib.Dec.{eqb}
+use borrow.Author.Tests.{le-leb, lt-ltb, eqb-true, eq-eqb, ne-eqb}
+use Rattle.words.specs.Header.{sizeAt, headerAt}
+use Rattle.layout.specs.Intervals.{shown}
+use Rattle.layout.specs.Limits.{mapWords, listWords}
+use Rattle.layout.specs.declared.Interval.{Interval}
+use Rattle.runs.specs.Lists.{intervalAt}
+use Rattle.runs.specs.LongestLaws.{clash}
+use Rattle.runs.specs.FreeListLaws.{list-ordered, list-fits}
+use Rattle.freelist.specs.Records.{records, validList}
+use Rattle.freelist.specs.RecordsLaws.{ordered-valid}
+use Rattle.freelist.specs.Search.{fitting}
+use Rattle.freelist.specs.SearchLaws.{fitting-none}
+use Rattle.freelist.specs.declared.search.Found.{Found}
+use Rattle.freelist.specs.declared.search.Found.the-variants.{At, Nothing}
+use Rattle.split.specs.RelistedLaws.{records-shown, relisted-shown}
+use Rattle.store.specs.Allot.{Allotment, allotment, allotRefused, askable, askedCode, placed, allotsIn, allots, Parts}
+use Rattle.store.specs.AllotLaws.{asked-numbers, asked-none, allot-refused, allot-full, Chosen, chosen}
+use Rattle.store.specs.Fields.{wordOf}
+use Rattle.demands.specs.World.{World, allot, fieldAt, allotsOn}
+use Rattle.demands.specs.History.{gives}
+use Rattle.demands.specs.Stands.{On, freeOf, Stands}
+use Rattle.demands.specs.StandsLaws.{sized, keeps}
+use Rattle.demands.specs.PlacedLaws.{Picked, place, unheld, next, next-new, next-zeros, header-still, field-still, marked, start-new, rest, rest-fits, relist, grown-cases, grown-still, grown-stands}
+
+module _ {w : World} (g : Stands w) where
+  -- How many words are needed of the map, and of the list.
+  abbrev m : ℕ
+  m = mapWords (w .state .words)
+
+  abbrev n : ℕ
+  n = listWords (w .state .words) (w .state .keep)
+
+  -- The needed parts.
+  parts : Parts (w .state) (w .heap) (take m (w .map)) (take n (w .list))
+  parts = record { suit = g .lent .bounded .suit; map-size = length-take-le m (w .map) (g .lent .map-room); list-size = length-take-le n (w .list) (g .lent .list-room) }
+
+  -- The list's words are those of the free list.
+  list-part : take n (w .list) ≡ shown n (freeOf w)
+  list-part = rw (sized g) at (g .listed)
+
+  list-read : records (w .state .count) (take n (w .list)) ≡ freeOf w
+  list-read = rw (g .count, list-part) (records-shown n (freeOf w))
+
+  free-fits : 2 * length (freeOf w) ≤ n
+  free-fits = rw (sized g) at (list-fits (w .state .keep) (w .heap) (w .map) (keeps g))
+
+  -- It passes refusal 3.
+  pub list-valid : validList (w .state .words) (w .state .keep) (w .state .count) (take n (w .list)) ≡ true
+  list-valid =
+      ordered-valid (w .state .words) (w .state .keep) (w .state .count) (take n (w .list)) (rw (g .count) free-fits)
+      (rw list-read (rw (sized g) at (list-ordered (w .state .keep) (w .heap) (w .map) (keeps g))))
+
+  module _ (s p : ℕ) where
+    -- What a refusal leaves.
+    abbrev refuse : ℕ → Allotment
+    refuse code = allotment (allotRefused code (w .state)) (w .heap) (w .map) (w .list)
+
+    -- What is left in the needed parts, in front of the rest.
+    abbrev joined : Allotment → Allotment
+    joined x = allotment (x .answer) (x .heap) (x .map ++ drop m (w .map)) (x .list ++ drop n (w .list))
+
+    -- The allot in them.
+    abbrev inner : Allotment
+    inner = allotsIn (w .state) (w .heap) (take m (w .map)) (take n (w .list)) s p
+
+    -- The number by the list and by what is asked.
+    abbrev asked-code : ℕ
+    asked-code = askedCode (w .state .words) (w .state .keep) (w .state .count) (take n (w .list)) s p
+
+    -- The allot is that one.
+    in-parts : allotsOn w s p ≡ joined inner
+    unfolding allots
+    in-parts = rw (g .lent .bounded .suit, le-leb m (length (w .map)) (g .lent .map-room), le-leb n (length (w .list)) (g .lent .list-room))
+
+    -- What is left where the new object has its place.
+    abbrev pub given : (j : ℕ) → Picked w s p j → Allotment
+    given j x = record {
+      answer = record { code = 0; address = place g x; state = record { words = w .state .words; keep = w .state .keep; count = length (rest g x) } };
+      heap = next g x;
+      map = marked g x;
+      list = relist g x;
+    }
+
+    -- What was chosen is a place for it.
+    picked : {j : ℕ} → Chosen (w .state) (w .heap) (take m (w .map)) (take n (w .list)) s p j → Picked w s p j
+    picked x = record { front = rw list-read at (x .front); least = x .ready .least; small = omega (arith, x .ready .small); fewer = x .ready .fewer }
+
+    -- And there it is placed.
+    placed-given : {j : ℕ} (x : Picked w s p j) → joined (placed (w .state) (w .heap) (take m (w .map)) (take n (w .list)) s p (At j)) ≡ given j x
+    unfolding placed
+    placed-given {j} x =
+        let fits : 2 * length (rest g x) ≤ n = rw (sized g) at (rest-fits g x) in
+        rw (list-read, g .count, list-part, relisted-shown n (freeOf w) (rest g x) free-fits fits, sized g) refl
+
+    -- Every free interval is too short.
+    abbrev pub Short : Type 0
+    Short = (j : ℕ) → j < length (freeOf w) → intervalAt (freeOf w) j .size < s
+
+    -- What holds of refusals 7 and 8, each for its reason, and of the new object in its place, holds of every allot.
+    pub allot-cases : (P : Allotment → Type 0) → (askable (w .state .keep) s p ≡ false → P (refuse 7)) → (askable (w .state .keep) s p ≡ true → Short → P (refuse 8)) → ((j : ℕ) (x : Picked w s p j) → P (given j x)) → P (allotsOn w s p)
+    allot-cases P seven eight new = rw in-parts (go (askable (w .state .keep) s p) refl)
+      where
+        refused : (code : ℕ) → allotment (allotRefused code (w .state)) (w .heap) (take m (w .map)) (take n (w .list)) ≡ inner → P (refuse code) → P (joined inner)
+        refused code e q = rw (← e, take-append-drop m (w .map), take-append-drop n (w .list)) q
+
+        found : asked-code ≡ 0 → askable (w .state .keep) s p ≡ true → (f : Found) → f ≡ fitting s (records (w .state .count) (take n (w .list))) → P (joined inner)
+        found none e Nothing q = refused 8 (allot-full parts s p refl none q refl) (eight e (rw list-read at (fitting-none s (records (w .state .count) (take n (w .list))) q refl)))
+        found none e (At j) q =
+            let x = chosen parts s p refl none q refl in
+            rw (x .left, placed-given (picked x)) (new j (picked x))
+
+        go : (b : Bool) → askable (w .state .keep) s p ≡ b → P (joined inner)
+        go false e = refused 7 (allot-refused parts s p (asked-numbers (w .state .words) (w .state .keep) (w .state .count) (take n (w .list)) s p refl list-valid e) (λ z. omega arith)) (seven e)
+        go true e = found (sym (asked-none (w .state .words) (w .state .keep) (w .state .count) (take n (w .list)) s p refl list-valid e)) e (fitting s (records (w .state .count) (take n (w .list)))) refl
+
+-- The world that an allot on w leaves.
+abbrev leftBy : World → Allotment → World
+leftBy w x = record { heap = x .heap; state = x .answer .state; map = x .map; stack = w .stack; list = x .list }
+
+-- It gives the address b.
+abbrev givesBy : Allotment → ℕ → Bool
+givesBy x b = eqb (x .answer .code) 0 && eqb (x .answer .address) b
+
+-- What an allot of s words with p references does to a world.
+pub record AllotLeaves (w : World) (s p : ℕ) (x : Allotment) : Type 0 where
+  -- It stands still, with its keep length.
+  pub stands : Stands (leftBy w x)
+  pub keep : x .answer .state .keep ≡ w .state .keep
+  -- On the map is what was there, and the new object.
+  pub on : (b : ℕ) → On (leftBy w x) b ↔ On w b ⊎ (givesBy x b ≡ true)
+  -- The new one was not there, and has the header asked for and zeros.
+  pub unheld : (b : ℕ) → givesBy x b ≡ true → ¬ On w b
+  pub new-header : (b : ℕ) → givesBy x b ≡ true → headerAt (x .heap) b ≡ record { size = s; refs = p }
+  pub new-field : (b k : ℕ) → givesBy x b ≡ true → k < s - 1 → getD (x .heap) (wordOf b k) 0 ≡ 0
+  -- The others keep their headers and fields.
+  pub old-header : (b : ℕ) → On w b → headerAt (x .heap) b ≡ headerAt (w .heap) b
+  pub old-field : (b k : ℕ) → On w b → k < sizeAt (w .heap) b - 1 → getD (x .heap) (wordOf b k) 0 ≡ fieldAt w b k
+
+-- The number that an allot answers, and its reasons.
+pub record AllotCode (w : World) (s p : ℕ) (free : List Interval) (code : ℕ) : Type 0 where
+  pub unasked : (code ≡ 7) ↔ (askable (w .state .keep) s p ≡ false)
+  pub lacks : (code ≡ 8) ↔ (askable (w .state .keep) s p ≡ true) × ((j : ℕ) → j < length free → intervalAt free j .size < s)
+  pub others : code ≢ 0 → List·Memᴰ code (7 ∷ 8 ∷ [])
+
+module _ {w : World} (g : Stands w) (s p : ℕ) where
+  -- A refusal leaves the world as it was.
+  refused-leaves : (code : ℕ) → code ≢ 0 → AllotLeaves w s p (refuse g s p code)
+  refused-leaves code some = record {
+    stands = g;
+    keep = refl;
+    on = λ b. (inl, λ e. elim e [ inl on ↦ on | inr e ↦ absurd (clash e (none b)) ]);
+    unheld = λ b e. absurd (clash e (none b));
+    new-header = λ b e. absurd (clash e (none b));
+    new-field = λ b k e. absurd (clash e (none b));
+    old-header = λ b on. refl;
+    old-field = λ b k on has. refl;
+  }
+    where
+      none : (b : ℕ) → eqb code 0 && eqb 0 b ≡ false
+      none b = rw (ne-eqb code 0 some)
+
+  -- The new object in its place.
+  given-leaves : (j : ℕ) (x : Picked w s p j) → AllotLeaves w s p (given g s p j x)
+  given-leaves j x = record {
+    stands = grown-stands g x;
+    keep = refl;
+    on = λ b. (grown-cases g x (λ b. On w b ⊎ (eqb (place g x) b ≡ true)) (inr (eq-eqb (place g x) (place g x) refl)) (λ b on. inl on) b, λ e. elim e [ inl on ↦ grown-still g x b on | inr e ↦ rw (← here b e) (start-new g x) ]);
+    unheld = λ b e. rw (← here b e) (unheld g x);
+    new-header = λ b e. rw (← here b e) (next-new g x);
+    new-field = λ b k e. rw (← here b e) (next-zeros g x k);
+    old-header = header-still g x;
+    old-field = field-still g x;
+  }
+    where
+      here : (b : ℕ) → eqb (place g x) b ≡ true → place g x ≡ b
+      here b e = eqb-true (place g x) b e
+
+  -- What every allot does.
+  pub allot-leaves : AllotLeaves w s p (allotsOn w s p)
+  allot-leaves = allot-cases g s p (AllotLeaves w s p) (λ e. refused-leaves 7 (λ z. omega arith)) (λ e short. refused-leaves 8 (λ z. omega arith)) given-leaves
+
+  -- What every allot answers.
+  pub allot-code : AllotCode w s p (freeOf w) (allotsOn w s p .answer .code)
+  allot-code = allot-cases g s p (λ x. AllotCode w s p (freeOf w) (x .answer .code))
+      (λ e. record { unasked = (λ z. e, λ z. refl); lacks = (λ z. absurd (omega arith), λ z. absurd (clash (z .0) e)); others = λ z. List·Memᴰ·head refl })
+      (λ e short. record { unasked = (λ z. absurd (omega arith), λ z. absurd (clash e z)); lacks = (λ z. (e, short), λ z. refl); others = λ z. List·Memᴰ·tail (List·Memᴰ·head refl) })
+      (λ j x. record {
+        unasked = (λ z. absurd (omega arith), λ z. absurd (clash (able x) z));
+        lacks = (λ z. absurd (omega arith), λ z. absurd (omega (arith, z .1 j (x .front .there), x .front .high)));
+        others = λ z. absurd (z refl);
+      })
+    where
+      able : {j : ℕ} → Picked w s p j → askable (w .state .keep) s p ≡ true
+      able x = rw (le-leb (w .state .keep) s (x .least), le-leb s 65535 (omega (arith, x .small)), lt-ltb p s (x .fewer))

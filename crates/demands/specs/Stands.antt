@@ -1,0 +1,38 @@
+-- What holds of the world after every call, said of the objects on its map.
+use Prim.Native.Nat.{ℕ, _<_}
+use mathlib.Core.Path.{_≡_}
+use mathlib.Core.Logic.{_≢_}
+use mathlib.Core.Bool.{true}
+use mathlib.Core.List.{List, []}
+use lib.ListN.{length, take}
+use Rattle.words.specs.Header.{refsAt}
+use Rattle.words.specs.Map.{bitAt, isStart}
+use Rattle.layout.specs.Intervals.{shown}
+use Rattle.layout.specs.Limits.{mapWords, listWords}
+use Rattle.layout.specs.declared.Interval.{Interval}
+use Rattle.runs.specs.Runs.{freeList}
+use Rattle.demands.specs.Reach.{Objects}
+use Rattle.demands.specs.Lent.{Lent}
+use Rattle.demands.specs.World.{World, fieldAt}
+
+-- An object starts at a on the world's map.
+abbrev pub On : World → ℕ → Type 0
+On w a = isStart (length (w .heap)) (w .map) a ≡ true
+
+-- The free list of the world.
+abbrev pub freeOf : World → List Interval
+freeOf w = freeList (w .state .keep) (w .heap) (w .map)
+
+-- The world stands.
+pub record Stands (w : World) : Type 0 where
+  -- All that is lent is within the limits.
+  pub lent : Lent (w .state) (w .heap) [] (w .map) (w .stack) (w .list)
+  -- Each bit in the map's needed words is an object's.
+  pub bits : (a : ℕ) → bitAt (take (mapWords (length (w .heap))) (w .map)) a ≡ true → On w a
+  -- The objects on the map are well-formed, and disjoint.
+  pub objects : Objects (w .heap) (w .state .keep) (On w)
+  -- Each reference field of one is empty or names one.
+  pub named : (a k : ℕ) → On w a → k < refsAt (w .heap) a → fieldAt w a k ≢ 0 → On w (fieldAt w a k)
+  -- The list is the free list, with zeros behind it.
+  pub count : w .state .count ≡ length (freeOf w)
+  pub listed : take (listWords (length (w .heap)) (w .state .keep)) (w .list) ≡ shown (listWords (length (w .heap)) (w .state .keep)) (freeOf w)
