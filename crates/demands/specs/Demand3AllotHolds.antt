@@ -10,27 +10,24 @@ use lib.Seq.{length-take-le}
 use lib.Dec.{eqb}
 use borrow.Author.Tests.{le-leb, lt-ltb, eqb-true, eq-eqb, ne-eqb}
 use Rattle.words.specs.Header.{sizeAt, headerAt}
-use Rattle.layout.specs.Intervals.{shown}
 use Rattle.layout.specs.Limits.{mapWords, listWords}
 use Rattle.layout.specs.declared.Interval.{Interval}
 use Rattle.runs.specs.Lists.{intervalAt}
 use Rattle.runs.specs.LongestLaws.{clash}
-use Rattle.runs.specs.FreeListLaws.{list-ordered, list-fits}
-use Rattle.freelist.specs.Records.{records, validList}
-use Rattle.freelist.specs.RecordsLaws.{ordered-valid}
+use Rattle.freelist.specs.Records.{records}
 use Rattle.freelist.specs.Search.{fitting}
 use Rattle.freelist.specs.SearchLaws.{fitting-none}
 use Rattle.freelist.specs.declared.search.Found.{Found}
 use Rattle.freelist.specs.declared.search.Found.the-variants.{At, Nothing}
-use Rattle.split.specs.RelistedLaws.{records-shown, relisted-shown}
+use Rattle.split.specs.RelistedLaws.{relisted-shown}
 use Rattle.store.specs.Allot.{Allotment, allotment, allotRefused, askable, askedCode, placed, allotsIn, allots, Parts}
 use Rattle.store.specs.AllotLaws.{asked-numbers, asked-none, allot-refused, allot-full, Chosen, chosen}
 use Rattle.store.specs.Fields.{wordOf}
 use Rattle.demands.specs.World.{World, allot, fieldAt, allotsOn}
 use Rattle.demands.specs.History.{gives}
 use Rattle.demands.specs.Stands.{On, freeOf, Stands}
-use Rattle.demands.specs.StandsLaws.{sized, keeps}
-use Rattle.demands.specs.PlacedLaws.{Picked, place, unheld, next, next-new, next-zeros, header-still, field-still, marked, start-new, rest, rest-fits, relist, grown-cases, grown-still, grown-stands}
+use Rattle.demands.specs.StandsLaws.{sized, list-part, part-read, free-fits, list-valid}
+use Rattle.demands.specs.PlacedLaws.{Picked, place, clear, next, next-new, next-zeros, header-still, field-still, marked, start-new, rest, rest-fits, relist, grown-cases, grown-still, grown-stands}
 
 module _ {w : World} (g : Stands w) where
   -- How many words are needed of the map, and of the list.
@@ -43,22 +40,6 @@ module _ {w : World} (g : Stands w) where
   -- The needed parts.
   parts : Parts (w .state) (w .heap) (take m (w .map)) (take n (w .list))
   parts = record { suit = g .lent .bounded .suit; map-size = length-take-le m (w .map) (g .lent .map-room); list-size = length-take-le n (w .list) (g .lent .list-room) }
-
-  -- The list's words are those of the free list.
-  list-part : take n (w .list) ≡ shown n (freeOf w)
-  list-part = rw (sized g) at (g .listed)
-
-  list-read : records (w .state .count) (take n (w .list)) ≡ freeOf w
-  list-read = rw (g .count, list-part) (records-shown n (freeOf w))
-
-  free-fits : 2 * length (freeOf w) ≤ n
-  free-fits = rw (sized g) at (list-fits (w .state .keep) (w .heap) (w .map) (keeps g))
-
-  -- It passes refusal 3.
-  pub list-valid : validList (w .state .words) (w .state .keep) (w .state .count) (take n (w .list)) ≡ true
-  list-valid =
-      ordered-valid (w .state .words) (w .state .keep) (w .state .count) (take n (w .list)) (rw (g .count) free-fits)
-      (rw list-read (rw (sized g) at (list-ordered (w .state .keep) (w .heap) (w .map) (keeps g))))
 
   module _ (s p : ℕ) where
     -- What a refusal leaves.
@@ -93,14 +74,14 @@ module _ {w : World} (g : Stands w) where
 
     -- What was chosen is a place for it.
     picked : {j : ℕ} → Chosen (w .state) (w .heap) (take m (w .map)) (take n (w .list)) s p j → Picked w s p j
-    picked x = record { front = rw list-read at (x .front); least = x .ready .least; small = omega (arith, x .ready .small); fewer = x .ready .fewer }
+    picked x = record { front = rw (part-read g) at (x .front); least = x .ready .least; small = omega (arith, x .ready .small); fewer = x .ready .fewer }
 
     -- And there it is placed.
     placed-given : {j : ℕ} (x : Picked w s p j) → joined (placed (w .state) (w .heap) (take m (w .map)) (take n (w .list)) s p (At j)) ≡ given j x
     unfolding placed
     placed-given {j} x =
         let fits : 2 * length (rest g x) ≤ n = rw (sized g) at (rest-fits g x) in
-        rw (list-read, g .count, list-part, relisted-shown n (freeOf w) (rest g x) free-fits fits, sized g) refl
+        rw (part-read g, g .count, list-part g, relisted-shown n (freeOf w) (rest g x) (free-fits g) fits, sized g) refl
 
     -- Every free interval is too short.
     abbrev pub Short : Type 0
@@ -114,14 +95,14 @@ module _ {w : World} (g : Stands w) where
         refused code e q = rw (← e, take-append-drop m (w .map), take-append-drop n (w .list)) q
 
         found : asked-code ≡ 0 → askable (w .state .keep) s p ≡ true → (f : Found) → f ≡ fitting s (records (w .state .count) (take n (w .list))) → P (joined inner)
-        found none e Nothing q = refused 8 (allot-full parts s p refl none q refl) (eight e (rw list-read at (fitting-none s (records (w .state .count) (take n (w .list))) q refl)))
+        found none e Nothing q = refused 8 (allot-full parts s p refl none q refl) (eight e (rw (part-read g) at (fitting-none s (records (w .state .count) (take n (w .list))) q refl)))
         found none e (At j) q =
             let x = chosen parts s p refl none q refl in
             rw (x .left, placed-given (picked x)) (new j (picked x))
 
         go : (b : Bool) → askable (w .state .keep) s p ≡ b → P (joined inner)
-        go false e = refused 7 (allot-refused parts s p (asked-numbers (w .state .words) (w .state .keep) (w .state .count) (take n (w .list)) s p refl list-valid e) (λ z. omega arith)) (seven e)
-        go true e = found (sym (asked-none (w .state .words) (w .state .keep) (w .state .count) (take n (w .list)) s p refl list-valid e)) e (fitting s (records (w .state .count) (take n (w .list)))) refl
+        go false e = refused 7 (allot-refused parts s p (asked-numbers (w .state .words) (w .state .keep) (w .state .count) (take n (w .list)) s p refl (list-valid g) e) (λ z. omega arith)) (seven e)
+        go true e = found (sym (asked-none (w .state .words) (w .state .keep) (w .state .count) (take n (w .list)) s p refl (list-valid g) e)) e (fitting s (records (w .state .count) (take n (w .list)))) refl
 
 -- The world that an allot on w leaves.
 abbrev leftBy : World → Allotment → World
@@ -138,8 +119,8 @@ pub record AllotLeaves (w : World) (s p : ℕ) (x : Allotment) : Type 0 where
   pub keep : x .answer .state .keep ≡ w .state .keep
   -- On the map is what was there, and the new object.
   pub on : (b : ℕ) → On (leftBy w x) b ↔ On w b ⊎ (givesBy x b ≡ true)
-  -- The new one was not there, and has the header asked for and zeros.
-  pub unheld : (b : ℕ) → givesBy x b ≡ true → ¬ On w b
+  -- The new one has no word of another, and has the header asked for and zeros.
+  pub clear : (b c : ℕ) → givesBy x b ≡ true → On w c → (c + sizeAt (w .heap) c ≤ b) ⊎ (b + s ≤ c)
   pub new-header : (b : ℕ) → givesBy x b ≡ true → headerAt (x .heap) b ≡ record { size = s; refs = p }
   pub new-field : (b k : ℕ) → givesBy x b ≡ true → k < s - 1 → getD (x .heap) (wordOf b k) 0 ≡ 0
   -- The others keep their headers and fields.
@@ -159,7 +140,7 @@ module _ {w : World} (g : Stands w) (s p : ℕ) where
     stands = g;
     keep = refl;
     on = λ b. (inl, λ e. elim e [ inl on ↦ on | inr e ↦ absurd (clash e (none b)) ]);
-    unheld = λ b e. absurd (clash e (none b));
+    clear = λ b c e. absurd (clash e (none b));
     new-header = λ b e. absurd (clash e (none b));
     new-field = λ b k e. absurd (clash e (none b));
     old-header = λ b on. refl;
@@ -175,7 +156,7 @@ module _ {w : World} (g : Stands w) (s p : ℕ) where
     stands = grown-stands g x;
     keep = refl;
     on = λ b. (grown-cases g x (λ b. On w b ⊎ (eqb (place g x) b ≡ true)) (inr (eq-eqb (place g x) (place g x) refl)) (λ b on. inl on) b, λ e. elim e [ inl on ↦ grown-still g x b on | inr e ↦ rw (← here b e) (start-new g x) ]);
-    unheld = λ b e. rw (← here b e) (unheld g x);
+    clear = λ b c e. rw (← here b e) (clear g x c);
     new-header = λ b e. rw (← here b e) (next-new g x);
     new-field = λ b k e. rw (← here b e) (next-zeros g x k);
     old-header = header-still g x;

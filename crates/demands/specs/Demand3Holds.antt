@@ -4,28 +4,26 @@ use mathlib.Core.Path.{_≡_, refl, _∙_}
 use mathlib.Core.Logic.{_↔_, inl, inr}
 use mathlib.Core.Bool.{false}
 use mathlib.Core.List.{List}
-use lib.ListN.{length, take, drop, take-append-drop}
+use lib.ListN.{length, take}
 use Rattle.words.specs.HeaderLaws.{equal-size}
 use Rattle.words.specs.Header.{sizeAt, headerAt}
 use Rattle.words.specs.Map.{bitAt}
 use Rattle.words.specs.MapLaws.{start}
 use Rattle.words.specs.declared.header.Header.{Header}
-use Rattle.layout.specs.Limits.{mapWords, listWords}
+use Rattle.layout.specs.Limits.{mapWords}
 use Rattle.layout.specs.RefusalLaws.{by-test}
 use Rattle.layout.specs.declared.Interval.{Interval}
 use Rattle.runs.specs.Lists.{intervalAt, Member}
 use Rattle.runs.specs.CoverLaws.{start-take}
 use Rattle.runs.specs.LongestLaws.{clash}
-use Rattle.freelist.specs.Records.{records}
-use Rattle.split.specs.RelistedLaws.{records-front}
 use Rattle.demands.specs.Reach.{Reach}
 use Rattle.demands.specs.Demand2.{Tells, Lists}
 use Rattle.demands.specs.ListsLaws.{covered-tells, list-lists}
 use Rattle.demands.specs.World.{World, allot, read, write, collect, survey, fieldAt, allotsOn, after}
-use Rattle.demands.specs.History.{History, set-up, _then_, world, keepOf, Rooted, Keeps, gives, Held, allottedAs, lastWritten}
+use Rattle.demands.specs.History.{History, set-up, _then_, world, keepOf, Rooted, Premise, Keeps, gives, Held, allottedAs, lastWritten}
 use Rattle.demands.specs.Demand3.{InHeld, FreeRun, AllotAnswers, Demand3}
 use Rattle.demands.specs.Stands.{On, freeOf, Stands}
-use Rattle.demands.specs.StandsLaws.{objects-same, keeps as standing-keeps}
+use Rattle.demands.specs.StandsLaws.{objects-same, list-read, keeps as standing-keeps}
 use Rattle.demands.specs.Demand3SetUpHolds.{set-up-left, set-up-none, set-up-stands}
 use Rattle.demands.specs.Demand3AllotHolds.{AllotLeaves, AllotCode, allot-leaves, allot-code}
 use Rattle.demands.specs.Demand3WriteHolds.{write-stands, write-long, write-header, write-field}
@@ -122,13 +120,13 @@ set-up-agrees heap t map stack list lent = record {
 
 -- After every call of a history that keeps the premises.
 pub agrees : (past : History) → Keeps past → Agrees past
-unfolding Keeps world after keepOf Held allottedAs lastWritten
+unfolding Keeps Premise world after keepOf Held allottedAs lastWritten
 agrees (set-up heap t map stack list) keeps = set-up-agrees heap t map stack list keeps
-agrees (past then allot s p) keeps = allot-agrees s p (agrees past keeps)
-agrees (past then read b j) keeps = let ih = agrees past keeps in record { stands = ih .stands; keep = ih .keep; held = ih .held; header = ih .header; field = ih .field }
-agrees (past then write b j v) keeps = write-agrees b j v (agrees past keeps)
+agrees (past then allot s p) keeps = allot-agrees s p (agrees past (keeps .0))
+agrees (past then read b j) keeps = let x = agrees past (keeps .0) in record { stands = x .stands; keep = x .keep; held = x .held; header = x .header; field = x .field }
+agrees (past then write b j v) keeps = write-agrees b j v (agrees past (keeps .0))
 agrees (past then collect roots) keeps = collect-agrees (keeps .1) (agrees past (keeps .0))
-agrees (past then survey) keeps = let ih = agrees past keeps in record { stands = ih .stands; keep = ih .keep; held = ih .held; header = ih .header; field = ih .field }
+agrees (past then survey) keeps = let x = agrees past (keeps .0) in record { stands = x .stands; keep = x .keep; held = x .held; header = x .header; field = x .field }
 
 module _ (past : History) (keeps : Keeps past) where
   -- What the history says of the world.
@@ -142,15 +140,9 @@ module _ (past : History) (keeps : Keeps past) where
       let map : List ℕ = world past .map in
       (λ e. told .held a .0 (told .stands .bits a e), λ e. start h (take (mapWords h) map) a (start-take h map a ∙ told .held a .1 e) .bit)
 
-  -- The list is read back.
-  list-read : records (world past .state .count) (world past .list) ≡ freeOf (world past)
-  list-read =
-      let n : ℕ = listWords (length (world past .heap)) (world past .state .keep) in
-      rw (← take-append-drop n (world past .list), told .stands .listed, told .stands .count) (records-front n (freeOf (world past)) (drop n (world past .list)))
-
-  -- It is the one that it must be.
+  -- The list is the one that it must be.
   lists-runs : Lists (world past .state .keep) (length (world past .heap)) (InHeld past) (world past .state .count) (world past .list)
-  lists-runs = list-lists (world past .heap) (world past .map) (standing-keeps (told .stands)) (covered-tells (world past .heap) (world past .map) (told .held)) list-read (told .stands .listed)
+  lists-runs = list-lists (world past .heap) (world past .map) (standing-keeps (told .stands)) (covered-tells (world past .heap) (world past .map) (told .held)) (list-read (told .stands)) (told .stands .listed)
 
   -- What an allot answers.
   allot-answers : (s p : ℕ) → AllotAnswers past s p (allotsOn (world past) s p .answer .code)
@@ -158,7 +150,7 @@ module _ (past : History) (keeps : Keeps past) where
     unasked = rw (← told .keep) (c .unasked);
     lacks = (
       λ e. let x = c .lacks .0 e in (rw (← told .keep) (x .0), λ i run. let m = member i run in rw (m .2) at (x .1 (m .0) (m .1))),
-      λ e. c .lacks .1 (rw (told .keep) (e .0), λ j there. e .1 (intervalAt (freeOf (world past)) j) (rw (← told .keep) (lists-runs .longest _ .0 (rw list-read (j, there, refl))))),
+      λ e. c .lacks .1 (rw (told .keep) (e .0), λ j there. e .1 (intervalAt (freeOf (world past)) j) (rw (← told .keep) (lists-runs .longest _ .0 (rw (list-read (told .stands)) (j, there, refl))))),
     );
     others = c .others;
   }
@@ -167,7 +159,7 @@ module _ (past : History) (keeps : Keeps past) where
       c = allot-code (told .stands) s p
 
       member : (i : Interval) → FreeRun past i → Member (freeOf (world past)) i
-      member i run = rw list-read at (lists-runs .longest i .1 (rw (told .keep) run))
+      member i run = rw (list-read (told .stands)) at (lists-runs .longest i .1 (rw (told .keep) run))
 
   -- All of it.
   pub demand-3 : Demand3 past

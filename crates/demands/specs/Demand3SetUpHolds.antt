@@ -1,7 +1,7 @@
 -- Demand 3: set-up leaves a world that stands, with nothing on its map.
 use Prim.Native.Nat.{ℕ}
 use mathlib.Core.Path.{_≡_, refl, sym, ap, _∙_}
-use mathlib.Core.Bool.{true, and-eq-true-iff}
+use mathlib.Core.Bool.{true}
 use mathlib.Core.List.{List, [], _++_}
 use lib.ListN.{length, take, drop, replicate, length-replicate}
 use lib.Seq.{take-at}
@@ -9,8 +9,8 @@ use borrow.Author.Tests.{le-leb}
 use Rattle.words.specs.Map.{isStart}
 use Rattle.words.specs.MapLaws.{bit-zeros, start}
 use Rattle.layout.specs.Intervals.{shown}
-use Rattle.layout.specs.Limits.{within, suits, mapWords, listWords}
-use Rattle.layout.specs.LimitsLaws.{suits-limits}
+use Rattle.layout.specs.Limits.{mapWords, listWords}
+use Rattle.layout.specs.LimitsLaws.{suits-within, suits-limits}
 use Rattle.layout.specs.SetUp.{firstList, setsUp}
 use Rattle.runs.specs.LongestLaws.{clash}
 use Rattle.runs.specs.CoverLaws.{start-take}
@@ -42,9 +42,9 @@ module _ {heap : List ℕ} {t : ℕ} {map stack list : List ℕ} (lent : Lent (r
 
   -- What set-up leaves.
   pub set-up-left : newWorld heap t map stack list ≡ record { heap = heap; state = record { words = h; keep = t; count = length (firstList h t) }; map = clear; stack = stack; list = shown n (firstList h t) ++ drop n list }
-  unfolding newWorld setsUp suits
+  unfolding newWorld setsUp
   set-up-left =
-      let allowed : within h t ≡ true = and-eq-true-iff (within h t) _ .0 (lent .bounded .suit) .0 in
+      let allowed = suits-within (record { words = h; keep = t; count = 0 }) heap (lent .bounded .suit) in
       rw (allowed, le-leb m (length map) (lent .map-room), le-leb n (length list) (lent .list-room))
 
   -- Nothing is on the map.

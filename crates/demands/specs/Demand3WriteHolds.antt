@@ -25,7 +25,7 @@ use Rattle.demands.specs.StandsLaws.{lent-still, on-formed, objects-same
 
 module _ {w : World} (g : Stands w) where
   -- The number of a field is that of the object.
-  field-code : (a k : ℕ) → fieldCode (w .state) (w .heap) (w .map) a k ≡ objectCode (w .heap) (w .state .keep) (w .map) a k
+  pub field-code : (a k : ℕ) → fieldCode (w .state) (w .heap) (w .map) a k ≡ objectCode (w .heap) (w .state .keep) (w .map) a k
   unfolding fieldCode
   field-code a k = rw (g .lent .bounded .suit, le-leb (mapWords (w .state .words)) (length (w .map)) (g .lent .map-room))
 

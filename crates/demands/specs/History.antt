@@ -1,4 +1,5 @@
 -- Histories: one set-up, and then calls of every kind, each of which gets what the last one left.
+use Prim.{Unit}
 use Prim.Native.Nat.{ℕ, _≤_}
 use mathlib.Core.Path.{_≡_}
 use mathlib.Core.Logic.{_⊎_}
@@ -35,14 +36,18 @@ pub record Rooted (w : World) (roots : List ℕ) : Type 0 where
   pub few : length roots ≤ maxRoots
   pub named : (r : ℕ) → List·Memᴰ r roots → (r ≡ 0) ⊎ (isStart (length (w .heap)) (w .map) r ≡ true)
 
--- The premises of demand 3: what set-up is lent is within the limits, and so is each root list, with roots as they must be.
+-- What demand 3 supposes of a call on the world w: of a collection, that its roots are such; of the others, nothing.
+unfoldable pub Premise : World → Call → Type 0
+Premise w (allot s p) = Unit
+Premise w (read b j) = Unit
+Premise w (write b j v) = Unit
+Premise w (collect roots) = Rooted w roots
+Premise w survey = Unit
+
+-- A history keeps the premises of demand 3: what set-up is lent is within the limits, and each call is as supposed.
 unfoldable pub Keeps : History → Type 0
 Keeps (set-up heap t map stack list) = Lent (record { words = length heap; keep = t; count = 0 }) heap [] map stack list
-Keeps (past then allot s p) = Keeps past
-Keeps (past then read b j) = Keeps past
-Keeps (past then write b j v) = Keeps past
-Keeps (past then collect roots) = Keeps past × Rooted (world past) roots
-Keeps (past then survey) = Keeps past
+Keeps (past then c) = Keeps past × Premise (world past) c
 
 -- The allot of s words with p references on the world w gives the address a.
 unfoldable pub gives : World → ℕ → ℕ → ℕ → Bool

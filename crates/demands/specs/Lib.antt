@@ -5,6 +5,8 @@ pub mod Demand2
 pub mod World
 pub mod History
 pub mod Demand3
+pub mod Since
+pub mod Answers
 pub mod Sameness
 pub mod Unread
 pub mod Examples
@@ -32,6 +34,8 @@ pub mod Demand3WriteHolds
 pub mod PlacedLaws
 pub mod Demand3AllotHolds
 pub mod Demand3Holds
+pub mod LastingHolds
+pub mod AnswersHold
 pub mod SamenessHolds
 pub mod SamenessInnerHolds
 pub mod UnreadHolds

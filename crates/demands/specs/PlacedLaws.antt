@@ -54,7 +54,7 @@ module _ {w : World} (g : Stands w) {s p j : ℕ} (x : Picked w s p j) where
   inside = omega (arith, x .front .high, free-run .high)
 
   -- Each object on the map ends before it or starts behind it.
-  clear : (b : ℕ) → On w b → (b + sizeAt (w .heap) b ≤ place) ⊎ (place + s ≤ b)
+  pub clear : (b : ℕ) → On w b → (b + sizeAt (w .heap) b ≤ place) ⊎ (place + s ≤ b)
   clear b on = go (decLe (b + sizeAt (w .heap) b) place) (decLe (place + s) b) (decLe place b)
     where
       owns : (c : ℕ) → b ≤ c → c < b + sizeAt (w .heap) b → covered (w .heap) (w .map) c ≡ true
@@ -67,7 +67,7 @@ module _ {w : World} (g : Stands w) {s p j : ℕ} (x : Picked w s p j) where
       go (no m) (no n) (no low) = absurd (free-run .free place (omega arith) (omega (arith, x .front .high, x .fewer)) (owns place (omega arith) (omega arith)))
 
   -- No object on the map starts there.
-  pub unheld : ¬ On w place
+  unheld : ¬ On w place
   unheld on = elim (clear place on) [ inl before ↦ omega (arith, on-formed g on .fewer) | inr behind ↦ omega (arith, x .fewer) ]
 
   -- The heap with the new object.

@@ -1,18 +1,24 @@
 -- Laws of a world that stands.
-use Prim.Native.Nat.{ℕ, _≤_}
+use Prim.Native.Nat.{ℕ, _*_, _≤_}
 use mathlib.Core.Path.{_≡_}
+use mathlib.Core.Bool.{true}
 use mathlib.Core.List.{List}
 use native.Mathlib.Omega.{arith}
-use lib.ListN.{length}
+use lib.ListN.{length, take, drop, take-append-drop}
 use Rattle.words.specs.Header.{sizeAt, headerAt}
 use Rattle.words.specs.HeaderLaws.{Formed, formed, formed-same, equal-size}
-use Rattle.layout.specs.Limits.{suits}
+use Rattle.layout.specs.Intervals.{shown}
+use Rattle.layout.specs.Limits.{suits, listWords}
 use Rattle.layout.specs.LimitsLaws.{suits-limits}
 use Rattle.layout.specs.declared.State.{State}
+use Rattle.runs.specs.FreeListLaws.{list-ordered, list-fits}
+use Rattle.freelist.specs.Records.{records, validList}
+use Rattle.freelist.specs.RecordsLaws.{ordered-valid}
+use Rattle.split.specs.RelistedLaws.{records-shown, records-front}
 use Rattle.demands.specs.Reach.{Objects}
 use Rattle.demands.specs.Lent.{Lent}
 use Rattle.demands.specs.World.{World}
-use Rattle.demands.specs.Stands.{On, Stands}
+use Rattle.demands.specs.Stands.{On, freeOf, Stands}
 
 -- What is lent stays within the limits while no length changes, nor the heap's words and the keep length in the state.
 pub lent-still : {state state′ : State} {heap heap′ roots map map′ stack stack′ list list′ : List ℕ} → Lent state heap roots map stack list
@@ -48,3 +54,28 @@ module _ {w : World} (g : Stands w) where
   -- What is on the map is well-formed.
   pub on-formed : {a : ℕ} → On w a → Formed (w .heap) (w .state .keep) a
   on-formed {a} on = formed (w .heap) (w .state .keep) a (g .objects .formed a on)
+
+  -- How many words are needed of the list.
+  abbrev n : ℕ
+  n = listWords (w .state .words) (w .state .keep)
+
+  -- There the free list stands, with zeros behind it.
+  pub list-part : take n (w .list) ≡ shown n (freeOf w)
+  list-part = rw sized at (g .listed)
+
+  -- It is read back, from that part and from the whole list.
+  pub part-read : records (w .state .count) (take n (w .list)) ≡ freeOf w
+  part-read = rw (g .count, list-part) (records-shown n (freeOf w))
+
+  pub list-read : records (w .state .count) (w .list) ≡ freeOf w
+  list-read = rw (← take-append-drop n (w .list), list-part, g .count) (records-front n (freeOf w) (drop n (w .list)))
+
+  -- The part has room for it.
+  pub free-fits : 2 * length (freeOf w) ≤ n
+  free-fits = rw sized at (list-fits (w .state .keep) (w .heap) (w .map) keeps)
+
+  -- It passes refusal 3.
+  pub list-valid : validList (w .state .words) (w .state .keep) (w .state .count) (take n (w .list)) ≡ true
+  list-valid =
+      ordered-valid (w .state .words) (w .state .keep) (w .state .count) (take n (w .list)) (rw (g .count) free-fits)
+      (rw part-read (rw sized at (list-ordered (w .state .keep) (w .heap) (w .map) keeps)))

@@ -77,11 +77,16 @@ module _ (h t : ℕ) {rooms : Rooms} (e : rooms ≡ roomsOf h t) where
     pub list-needs : rooms .list ≡ listWords h t
     list-needs = rw (e, rooms-in h t allowed)
 
--- A state that suits its heap is within the limits, and the heap has its words.
+-- A state that suits its heap is within the limits.
+pub suits-within : (state : State) (heap : List ℕ) → suits state heap ≡ true → within (state .words) (state .keep) ≡ true
+unfolding suits
+suits-within state heap e = and-eq-true-iff _ _ .0 e .0
+
+-- So each bound holds, and the heap has its words.
 pub suits-limits : (state : State) (heap : List ℕ) → suits state heap ≡ true → Limits (state .words) (state .keep) × (length heap ≡ state .words)
 unfolding suits
 suits-limits state heap e =
-    let x = and-eq-true-iff _ _ .0 e in
+    let x = and-eq-true-iff (within (state .words) (state .keep)) _ .0 e in
     (limits (state .words) (state .keep) (x .0), eqb-true (length heap) (state .words) (x .1))
 
 -- The same test as the code makes it, with the room figures that it has worked out.

@@ -1,14 +1,14 @@
 -- Laws of read and write.
 use Prim.Native.Nat.{ℕ, zero, suc, _+_, _-_, _*_, _≤_, _<_}
 use mathlib.Core.Path.{_≡_, refl, sym, ap, _∙_}
-use mathlib.Core.Logic.{_≢_}
-use mathlib.Core.Bool.{Bool, true, false}
+use mathlib.Core.Logic.{_≢_, _⊎_, inl, inr}
+use mathlib.Core.Bool.{Bool, true, false, _||_, or-true}
 use mathlib.Core.List.{List, [], _∷_, List·Memᴰ, List·Memᴰ·head, List·Memᴰ·tail, Memᴰ·cast}
 use native.Mathlib.Omega.{arith}
 use lib.ListN.{length, getD, drop, set}
 use lib.Seq.{getD-take, getD-drop}
-use lib.Dec.{leb, ltb, lit<}
-use borrow.Author.Tests.{leb-true, ltb-true, lt-ltb, le-ltb, le-leb, lt-leb, ne-eqb}
+use lib.Dec.{leb, ltb, eqb, lit<}
+use borrow.Author.Tests.{leb-true, ltb-true, lt-ltb, le-ltb, le-leb, lt-leb, eq-eqb, ne-eqb}
 use Rattle.words.specs.Header.{sizeAt, refsAt, headerAt, wellFormed, fieldsOf}
 use Rattle.words.specs.HeaderLaws.{Formed, formed, length-fields}
 use Rattle.words.specs.Map.{isStart}
@@ -124,7 +124,14 @@ module _ (state : State) (heap map : List ℕ) (a k : ℕ) {code : ℕ} (e : cod
     unfolding writes
     write-stored z t b = rw (← e, z, ← t, b)
 
--- What a reference field may be given is 0 or a start on the map.
+-- A data field may be given any value, and a reference field 0 or a start on the map …
+pub start-takes : (heap map : List ℕ) (a k v : ℕ) → (refsAt heap a ≤ k) ⊎ ((v ≡ 0) ⊎ (isStart (length heap) map v ≡ true)) → takes heap map a k v ≡ true
+unfolding takes
+start-takes heap map a k v (inl any) = rw (le-leb (refsAt heap a) k any)
+start-takes heap map a k v (inr (inl none)) = rw (eq-eqb v 0 none) (rw (or-true (leb (refsAt heap a) k)))
+start-takes heap map a k v (inr (inr on)) = rw on (or-true (leb (refsAt heap a) k || eqb v 0))
+
+-- … and a reference field no other.
 pub takes-start : (heap map : List ℕ) (a k v : ℕ) → takes heap map a k v ≡ true → k < refsAt heap a → v ≢ 0 → isStart (length heap) map v ≡ true
 unfolding takes
 takes-start heap map a k v taken inside some = rw (lt-leb (refsAt heap a) k inside, ne-eqb v 0 some) at taken
