@@ -23,7 +23,8 @@ use Rattle.split.specs.RelistedLaws.{relisted-shown}
 use Rattle.store.specs.Allot.{Allotment, allotment, allotRefused, askable, askedCode, placed, allotsIn, allots, Parts}
 use Rattle.store.specs.AllotLaws.{asked-numbers, asked-none, allot-refused, allot-full, Chosen, chosen}
 use Rattle.store.specs.Fields.{wordOf}
-use Rattle.demands.specs.World.{World, allot, fieldAt, allotsOn}
+use Rattle.demands.specs.World.{World, allot, fieldAt, allotsOn, after}
+use Rattle.demands.specs.History.{gives}
 use Rattle.demands.specs.History.{gives}
 use Rattle.demands.specs.Stands.{On, freeOf, Stands}
 use Rattle.demands.specs.StandsLaws.{sized, list-part, part-read, free-fits, list-valid}
@@ -183,3 +184,8 @@ module _ {w : World} (g : Stands w) (s p : ℕ) where
     where
       able : {j : ℕ} → Picked w s p j → askable (w .state .keep) s p ≡ true
       able x = rw (le-leb (w .state .keep) s (x .least), le-leb s 65535 (omega (arith, x .small)), lt-ltb p s (x .fewer))
+
+  -- The fields of the new object are 0.
+  pub allot-zeros : (a k : ℕ) → gives w s p a ≡ true → k < s - 1 → fieldAt (after w (allot s p)) a k ≡ 0
+  unfolding after gives
+  allot-zeros = allot-leaves .new-field

@@ -1,7 +1,7 @@
 -- Demand 3: a collection in a world that stands.
 use Prim.Native.Nat.{ℕ}
 use mathlib.Core.Path.{_≡_, refl, sym, ap, _∙_}
-use mathlib.Core.Logic.{inl, inr}
+use mathlib.Core.Logic.{_↔_, inl, inr}
 use mathlib.Core.List.{List}
 use lib.ListN.{length}
 use Rattle.words.specs.Map.{covered}
@@ -48,8 +48,13 @@ module _ {w : World} (g : Stands w) {roots : List ℕ} (rooted : Rooted w roots)
   collect-succeeds = meets .succeeds .1 sound
 
   -- It finds what is reached.
-  pub collect-finds : Finds (w .heap) (w .state .keep) roots (collectsOn w roots .answer) (collectsOn w roots .map) (collectsOn w roots .list)
+  collect-finds : Finds (w .heap) (w .state .keep) roots (collectsOn w roots .answer) (collectsOn w roots .map) (collectsOn w roots .list)
   collect-finds = meets .finds collect-succeeds
+
+  -- Afterwards just what is reached is on the map.
+  pub collect-starts : (a : ℕ) → On (after w (collect roots)) a ↔ Reach (w .heap) (w .state .keep) roots a
+  unfolding after
+  collect-starts = collect-finds .starts
 
   -- The keep length stays.
   pub collect-keep : collectsOn w roots .answer .state .keep ≡ w .state .keep

@@ -25,9 +25,9 @@ use Rattle.demands.specs.Demand3.{InHeld, FreeRun, AllotAnswers, Demand3
 use Rattle.demands.specs.Stands.{On, freeOf, Stands}
 use Rattle.demands.specs.StandsLaws.{objects-same, list-read, keeps as standing-keeps}
 use Rattle.demands.specs.Demand3SetUpHolds.{set-up-left, set-up-none, set-up-stands}
-use Rattle.demands.specs.Demand3AllotHolds.{AllotLeaves, AllotCode, allot-leaves, allot-code}
+use Rattle.demands.specs.Demand3AllotHolds.{AllotLeaves, AllotCode, allot-leaves, allot-zeros, allot-code}
 use Rattle.demands.specs.Demand3WriteHolds.{write-stands, write-long, write-header, write-field}
-use Rattle.demands.specs.Demand3CollectHolds.{reached-on, collect-succeeds, collect-finds, collect-keep, collect-stands}
+use Rattle.demands.specs.Demand3CollectHolds.{reached-on, collect-succeeds, collect-starts, collect-keep, collect-stands}
 
 -- The world stands, and what is on its map is what the history says.
 pub record Agrees (past : History) : Type 0 where
@@ -49,7 +49,7 @@ allot-agrees {past} s p ih = record {
   );
   header = λ a on. by-test (λ (h : Header). headerAt (allotsOn w s p .heap) a ≡ h) (gives w s p a) (x .new-header a) (λ other. x .old-header a (was a on other) ∙ ih .header a (was a on other));
   field = λ a k on has. by-test (λ (v : ℕ). fieldAt (after w (allot s p)) a k ≡ v) (gives w s p a)
-      (λ new. x .new-field a k new (rw (equal-size (x .new-header a new)) at has))
+      (λ new. allot-zeros (ih .stands) s p a k new (rw (equal-size (x .new-header a new)) at has))
       (λ other. let old = was a on other in
       let has′ : k < sizeAt (w .heap) a - 1 = rw (equal-size (x .old-header a old)) at has in
       x .old-field a k old has′ ∙ ih .field a k old has′);
@@ -91,8 +91,8 @@ collect-agrees {past} {roots} rooted ih = record {
   stands = collect-stands g rooted;
   keep = collect-keep g rooted ∙ ih .keep;
   held = λ a. (
-    λ on. let p = found a .0 on in (ih .held a .0 (reached-on g rooted p), rw (ih .keep) at p),
-    λ e. found a .1 (rw (ih .keep) (e .1)),
+    λ on. let p = collect-starts g rooted a .0 on in (ih .held a .0 (reached-on g rooted p), rw (ih .keep) at p),
+    λ e. collect-starts g rooted a .1 (rw (ih .keep) (e .1)),
   );
   header = λ a on. ih .header a (was a on);
   field = λ a k on. ih .field a k (was a on);
@@ -101,11 +101,8 @@ collect-agrees {past} {roots} rooted ih = record {
     g : Stands (world past)
     g = ih .stands
 
-    found : (a : ℕ) → On (after (world past) (collect roots)) a ↔ Reach (world past .heap) (world past .state .keep) roots a
-    found = collect-finds (ih .stands) rooted .starts
-
     was : (a : ℕ) → On (after (world past) (collect roots)) a → On (world past) a
-    was a on = reached-on (ih .stands) rooted (found a .0 on)
+    was a on = reached-on (ih .stands) rooted (collect-starts (ih .stands) rooted a .0 on)
 
 -- After set-up.
 set-up-agrees : (heap : List ℕ) (t : ℕ) (map stack list : List ℕ) → Keeps (set-up heap t map stack list) → Agrees (set-up heap t map stack list)

@@ -8,6 +8,7 @@ pub mod Demand3
 pub mod Since
 pub mod Answers
 pub mod Sameness
+pub mod Allowed
 pub mod Unread
 pub mod Examples
 pub mod Tracks
@@ -37,6 +38,7 @@ pub mod Demand3Holds
 pub mod LastingHolds
 pub mod AnswersHold
 pub mod SamenessHolds
+pub mod AllowedHolds
 pub mod SamenessInnerHolds
 pub mod UnreadHolds
 pub mod ExamplesHold
