@@ -2,9 +2,9 @@
 use Prim.Native.Nat.{ℕ, _+_, _-_, _*_, _≤_, _<_}
 use mathlib.Core.Path.{_≡_, refl, ap, _∙_}
 use mathlib.Core.Bool.{Bool, _&&_}
-use mathlib.Core.List.{List, [], _∷_, _++_, List·Memᴰ·head}
+use mathlib.Core.List.{List, [], _∷_, List·Memᴰ·head}
 use native.Mathlib.Omega.{arith}
-use lib.ListN.{length, take, drop, take-append-drop}
+use lib.ListN.{length, take, take-append-drop}
 use lib.Seq.{length-take-le}
 use lib.Dec.{leb, eqb}
 use borrow.Author.Tests.{eqb-true}
@@ -22,7 +22,7 @@ use Rattle.freelist.specs.declared.search.Found.the-variants.{At, Nothing}
 use Rattle.split.specs.RelistedLaws.{length-relisted}
 use Rattle.split.specs.SidesLaws.{in-place, in-read, front-sides, front-fits}
 use Rattle.store.specs.Allot.{Allotment, allotment, allotRefused, askable, askedCode, placed, allotsIn, allots, Parts}
-use Rattle.store.specs.AllotLaws.{Chosen, chosen, ends}
+use Rattle.store.specs.AllotLaws.{joined, Chosen, chosen, ends}
 use Rattle.store.specs.ObjectLaws.{length-laid}
 use Rattle.demands.specs.Demand1.{Kept, Refuses, AllotEnds}
 use Rattle.demands.specs.RefusesLaws.{kept-same, kept-front, success, refusal, refuses-unless, refuses-by}
@@ -107,16 +107,12 @@ module _ (state : State) (heap map list : List ℕ) (s p : ℕ) where
   abbrev long : Bool
   long = leb m (length map) && leb n (length list)
 
-  -- What is left in the needed parts, in front of the rest.
-  abbrev joined : Allotment → Allotment
-  joined x = allotment (x .answer) (x .heap) (x .map ++ drop m map) (x .list ++ drop n list)
-
   -- It refuses with one of its numbers, and then state, heap, map and list are as they came.
   allot-refuses : Refuses codeOf (refuse state heap map list) (1 ∷ 2 ∷ 3 ∷ 7 ∷ 8 ∷ []) (allots state heap map list s p)
   unfolding allots
   allot-refuses = refuses-unless (λ n. refl) (suits state heap) 1 (refuses-unless (λ n. refl) long 2 λ some.
       let x = parts-refuse state heap (take m map) (take n list) s p some in
-      record { number = x .number; whole = ap joined (x .whole) ∙ rw (take-append-drop m map, take-append-drop n list) refl })
+      record { number = x .number; whole = ap (joined state map list) (x .whole) ∙ rw (take-append-drop m map, take-append-drop n list) refl })
 
   -- What is kept of heap, map and list.
   abbrev AllotKeeps : Allotment → Type 0

@@ -3,9 +3,9 @@ use Prim.Native.Nat.{ℕ, _+_, _-_, _*_, _≤_, _<_}
 use mathlib.Core.Path.{_≡_, refl, sym}
 use mathlib.Core.Logic.{_≢_, _↔_, _⊎_, inl, inr}
 use mathlib.Core.Bool.{Bool, true, false, _&&_}
-use mathlib.Core.List.{List, [], _∷_, _++_, List·Memᴰ, List·Memᴰ·head, List·Memᴰ·tail}
+use mathlib.Core.List.{List, [], _∷_, List·Memᴰ, List·Memᴰ·head, List·Memᴰ·tail}
 use native.Mathlib.Omega.{arith}
-use lib.ListN.{length, getD, take, drop, take-append-drop}
+use lib.ListN.{length, getD, take, take-append-drop}
 use lib.Seq.{length-take-le}
 use lib.Dec.{eqb}
 use borrow.Author.Tests.{le-leb, lt-ltb, eqb-true, eq-eqb, ne-eqb}
@@ -20,8 +20,8 @@ use Rattle.freelist.specs.SearchLaws.{fitting-none}
 use Rattle.freelist.specs.declared.search.Found.{Found}
 use Rattle.freelist.specs.declared.search.Found.the-variants.{At, Nothing}
 use Rattle.split.specs.RelistedLaws.{relisted-shown}
-use Rattle.store.specs.Allot.{Allotment, allotment, allotRefused, askable, askedCode, placed, allotsIn, allots, Parts}
-use Rattle.store.specs.AllotLaws.{asked-numbers, asked-none, allot-refused, allot-full, Chosen, chosen}
+use Rattle.store.specs.Allot.{Allotment, allotment, allotRefused, askable, askedCode, placed, allotsIn, Parts}
+use Rattle.store.specs.AllotLaws.{joined, allot-within, asked-numbers, asked-none, allot-refused, allot-full, Chosen, chosen}
 use Rattle.store.specs.Fields.{wordOf}
 use Rattle.demands.specs.World.{World, allot, fieldAt, allotsOn, after}
 use Rattle.demands.specs.History.{gives}
@@ -47,11 +47,7 @@ module _ {w : World} (g : Stands w) where
     abbrev refuse : ℕ → Allotment
     refuse code = allotment (allotRefused code (w .state)) (w .heap) (w .map) (w .list)
 
-    -- What is left in the needed parts, in front of the rest.
-    abbrev joined : Allotment → Allotment
-    joined x = allotment (x .answer) (x .heap) (x .map ++ drop m (w .map)) (x .list ++ drop n (w .list))
-
-    -- The allot in them.
+    -- The allot in the needed parts.
     abbrev inner : Allotment
     inner = allotsIn (w .state) (w .heap) (take m (w .map)) (take n (w .list)) s p
 
@@ -60,9 +56,8 @@ module _ {w : World} (g : Stands w) where
     asked-code = askedCode (w .state .words) (w .state .keep) (w .state .count) (take n (w .list)) s p
 
     -- The allot is that one.
-    in-parts : allotsOn w s p ≡ joined inner
-    unfolding allots
-    in-parts = rw (g .lent .bounded .suit, le-leb m (length (w .map)) (g .lent .map-room), le-leb n (length (w .list)) (g .lent .list-room))
+    in-parts : allotsOn w s p ≡ joined (w .state) (w .map) (w .list) inner
+    in-parts = allot-within (w .state) (w .heap) (w .map) (w .list) s p (g .lent .bounded .suit) (g .lent .map-room) (g .lent .list-room)
 
     -- What is left where the new object has its place.
     abbrev pub given : (j : ℕ) → Picked w s p j → Allotment
@@ -78,7 +73,7 @@ module _ {w : World} (g : Stands w) where
     picked x = record { front = rw (part-read g) at (x .front); least = x .ready .least; small = omega (arith, x .ready .small); fewer = x .ready .fewer }
 
     -- And there it is placed.
-    placed-given : {j : ℕ} (x : Picked w s p j) → joined (placed (w .state) (w .heap) (take m (w .map)) (take n (w .list)) s p (At j)) ≡ given j x
+    placed-given : {j : ℕ} (x : Picked w s p j) → joined (w .state) (w .map) (w .list) (placed (w .state) (w .heap) (take m (w .map)) (take n (w .list)) s p (At j)) ≡ given j x
     unfolding placed
     placed-given {j} x =
         let fits : 2 * length (rest g x) ≤ n = rw (sized g) at (rest-fits g x) in
@@ -92,16 +87,16 @@ module _ {w : World} (g : Stands w) where
     pub allot-cases : (P : Allotment → Type 0) → (askable (w .state .keep) s p ≡ false → P (refuse 7)) → (askable (w .state .keep) s p ≡ true → Short → P (refuse 8)) → ((j : ℕ) (x : Picked w s p j) → P (given j x)) → P (allotsOn w s p)
     allot-cases P seven eight new = rw in-parts (go (askable (w .state .keep) s p) refl)
       where
-        refused : (code : ℕ) → allotment (allotRefused code (w .state)) (w .heap) (take m (w .map)) (take n (w .list)) ≡ inner → P (refuse code) → P (joined inner)
+        refused : (code : ℕ) → allotment (allotRefused code (w .state)) (w .heap) (take m (w .map)) (take n (w .list)) ≡ inner → P (refuse code) → P (joined (w .state) (w .map) (w .list) inner)
         refused code e q = rw (← e, take-append-drop m (w .map), take-append-drop n (w .list)) q
 
-        found : asked-code ≡ 0 → askable (w .state .keep) s p ≡ true → (f : Found) → f ≡ fitting s (records (w .state .count) (take n (w .list))) → P (joined inner)
+        found : asked-code ≡ 0 → askable (w .state .keep) s p ≡ true → (f : Found) → f ≡ fitting s (records (w .state .count) (take n (w .list))) → P (joined (w .state) (w .map) (w .list) inner)
         found none e Nothing q = refused 8 (allot-full parts s p refl none q refl) (eight e (rw (part-read g) at (fitting-none s (records (w .state .count) (take n (w .list))) q refl)))
         found none e (At j) q =
             let x = chosen parts s p refl none q refl in
             rw (x .left, placed-given (picked x)) (new j (picked x))
 
-        go : (b : Bool) → askable (w .state .keep) s p ≡ b → P (joined inner)
+        go : (b : Bool) → askable (w .state .keep) s p ≡ b → P (joined (w .state) (w .map) (w .list) inner)
         go false e = refused 7 (allot-refused parts s p (asked-numbers (w .state .words) (w .state .keep) (w .state .count) (take n (w .list)) s p refl (list-valid g) e) (λ z. omega arith)) (seven e)
         go true e = found (sym (asked-none (w .state .words) (w .state .keep) (w .state .count) (take n (w .list)) s p refl (list-valid g) e)) e (fitting s (records (w .state .count) (take n (w .list)))) refl
 

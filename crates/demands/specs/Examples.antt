@@ -1,9 +1,9 @@
--- The worked examples P1 to P11, in one table.
+-- The worked examples P1 to P11 and four short histories, in one table.
 use Prim.Native.Nat.{ℕ, _+_, _-_, _*_}
 use mathlib.Core.List.{List, [], _∷_, _++_}
 use lib.ListN.{length, take, drop, set, replicate}
 use Rattle.layout.specs.Limits.{mapWords, stackWords, listWords}
-use Rattle.demands.specs.World.{World, Call, allot, collect, survey, after, answers}
+use Rattle.demands.specs.World.{World, Call, allot, read, write, collect, survey, after, answers}
 use Rattle.demands.specs.History.{History, set-up, world, onward}
 
 -- An image: the heap's length, the keep length, and the words that are not 0, each with its address.
@@ -70,6 +70,10 @@ touching = image 7 2 ((1, 2) ∷ (3, 2) ∷ (5, 2) ∷ [])
 abbrev pub nested : Image
 nested = image 8 2 ((1, 4) ∷ (2, 2) ∷ [])
 
+-- The image of H1 to H4: no object, and junk in two words.
+abbrev pub littered : Image
+littered = image 8 2 ((2, 9) ∷ (3, 9) ∷ [])
+
 -- The table: a row for each case of each example.
 unfoldable pub table : List Example
 table =
@@ -100,4 +104,12 @@ table =
     -- P11: the heap is word 0 alone, with no root, or with one.
     row (image 1 1 []) [] (collect []) (0 ∷ 0 ∷ 0 ∷ 0 ∷ 0 ∷ 0 ∷ []) (0 ∷ []) [] ∷
     row (image 1 1 []) [] (collect (1 ∷ [])) (4 ∷ 1 ∷ 0 ∷ 0 ∷ 0 ∷ 0 ∷ []) (0 ∷ []) [] ∷
+    -- H1: the fields of a new object are 0, whatever stood there.
+    row littered (collect [] ∷ allot 3 1 ∷ []) (read 1 0) (0 ∷ 0 ∷ []) (2 ∷ []) (4 ∷ 4 ∷ []) ∷
+    -- H2: its reference field takes no address where no object starts.
+    row littered (collect [] ∷ allot 3 1 ∷ []) (write 1 0 5) (11 ∷ []) (2 ∷ []) (4 ∷ 4 ∷ []) ∷
+    -- H3: a collection that reaches it leaves it, with what was written.
+    row littered (collect [] ∷ allot 3 1 ∷ write 1 1 7 ∷ collect (1 ∷ []) ∷ []) (read 1 1) (0 ∷ 7 ∷ []) (2 ∷ []) (4 ∷ 4 ∷ []) ∷
+    -- H4: a collection that does not reach it frees its words.
+    row littered (collect [] ∷ allot 3 1 ∷ []) (collect []) (0 ∷ 0 ∷ 0 ∷ 0 ∷ 0 ∷ 1 ∷ []) (0 ∷ []) (1 ∷ 7 ∷ []) ∷
     []

@@ -1,7 +1,7 @@
 -- The worked examples hold, by computing.
 use mathlib.Core.Path.{_≡_, refl}
 use mathlib.Core.List.{map}
-use Rattle.words.specs.Header.{sizeAt, refsAt, wellFormed, fieldsOf}
+use Rattle.words.specs.Header.{sizeAt, refsAt, headerWord, wellFormed, fieldsOf}
 use Rattle.words.specs.Map.{bitAt, setBit, isStart, someBelow, covered}
 use Rattle.layout.specs.Intervals.{flat, shown}
 use Rattle.layout.specs.Limits.{within, suits, mapWords, stackWords, listRoom, listWords}
@@ -15,6 +15,7 @@ use Rattle.split.specs.Relisted.{relisted}
 use Rattle.marking.specs.Marking.{marked, overlaps, meet, move, run, begin, collection}
 use Rattle.collector.specs.Collect.{collectsIn, collects}
 use Rattle.store.specs.Allot.{askedCode, withObject, placed, allotsIn, allots}
+use Rattle.store.specs.Fields.{objectCode, fieldCode, reads, takes, writes}
 use Rattle.store.specs.Survey.{surveys}
 use Rattle.demands.specs.World.{newWorld, after, answers}
 use Rattle.demands.specs.History.{world, onward}
@@ -27,7 +28,7 @@ unfolding
     newWorld after answers world onward
     setsUp firstList within suits mapWords stackWords listRoom listWords flat shown
     collects collectsIn collection begin run move meet marked overlaps
-    freeList runs runsFrom kept sizeAt refsAt wellFormed fieldsOf bitAt setBit isStart someBelow covered
+    freeList runs runsFrom kept sizeAt refsAt headerWord wellFormed fieldsOf bitAt setBit isStart someBelow covered
     allots allotsIn placed withObject askedCode records inOrder validList firstFrom fitting cut relisted
-    surveys listed largest fragmentOf
+    objectCode fieldCode reads takes writes surveys listed largest fragmentOf
 examples-hold = refl

@@ -8,7 +8,7 @@ pub mod Demand3
 pub mod Since
 pub mod Answers
 pub mod Sameness
-pub mod Allowed
+pub mod MayLeave
 pub mod Unread
 pub mod Examples
 pub mod Tracks
@@ -38,7 +38,7 @@ pub mod Demand3Holds
 pub mod LastingHolds
 pub mod AnswersHold
 pub mod SamenessHolds
-pub mod AllowedHolds
+pub mod MayLeaveHolds
 pub mod SamenessInnerHolds
 pub mod UnreadHolds
 pub mod ExamplesHold

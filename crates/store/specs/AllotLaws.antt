@@ -8,9 +8,9 @@ use native.Mathlib.Omega.{arith}
 use lib.ListN.{length, take, drop}
 use lib.Seq.{length-take-le}
 use lib.Dec.{leb, lit<}
-use borrow.Author.Tests.{leb-true, ltb-true, ne-eqb}
+use borrow.Author.Tests.{leb-true, ltb-true, le-leb, ne-eqb}
 use Rattle.words.specs.Map.{setBit}
-use Rattle.layout.specs.Limits.{mapWords, roomsOf}
+use Rattle.layout.specs.Limits.{suits, mapWords, listWords, roomsOf}
 use Rattle.layout.specs.LimitsLaws.{Limits, suitsBy, Suited, suits-tells, suited, suits-limits, two-fit, bit-inside}
 use Rattle.layout.specs.RefusalLaws.{no-refusal}
 use Rattle.layout.specs.declared.Interval.{Interval}
@@ -25,7 +25,7 @@ use Rattle.freelist.specs.SearchLaws.{fitting-in}
 use Rattle.freelist.specs.declared.search.Found.{Found}
 use Rattle.freelist.specs.declared.search.Found.the-variants.{At, Nothing}
 use Rattle.split.specs.Relisted.{relisted}
-use Rattle.store.specs.Allot.{allotment, allotRefused, askable, askedCode, withObject, placed, allotsIn, allots, Parts}
+use Rattle.store.specs.Allot.{Allotment, allotment, allotRefused, askable, askedCode, withObject, placed, allotsIn, allots, Parts}
 use Rattle.store.specs.declared.allots.Allotted.{Allotted}
 
 -- The ways out of the whole call, where the room figures are worked out.
@@ -64,6 +64,16 @@ module _ (state : State) (heap map list : List ℕ) (s p : ℕ) {rooms : Rooms} 
           → allotment r heap′ (map′ ++ drop (rooms .map) map) (list′ ++ drop (rooms .list) list) ≡ allots state heap map list s p
       unfolding allots
       allot-parts q = rw (← suits-tells state heap e, test, ← ok .map-room, ← ok .list-room, long, ← q) refl
+
+-- What is left in the needed parts, in front of what came behind them.
+abbrev pub joined : State → List ℕ → List ℕ → Allotment → Allotment
+joined state map list x = allotment (x .answer) (x .heap) (x .map ++ drop (mapWords (state .words)) map) (x .list ++ drop (listWords (state .words) (state .keep)) list)
+
+-- With the needed parts an allot is one in them.
+pub allot-within : (state : State) (heap map list : List ℕ) (s p : ℕ) → let m : ℕ = mapWords (state .words) in let n : ℕ = listWords (state .words) (state .keep) in
+    suits state heap ≡ true → m ≤ length map → n ≤ length list → allots state heap map list s p ≡ joined state map list (allotsIn state heap (take m map) (take n list) s p)
+unfolding allots
+allot-within state heap map list s p suit room-map room-list = rw (suit, le-leb (mapWords (state .words)) (length map) room-map, le-leb (listWords (state .words) (state .keep)) (length list) room-list)
 
 -- The number by the list and by what is asked for, where the list was tested.
 module _ (h t count : ℕ) (list : List ℕ) (s p : ℕ) {valid : Bool} (v : valid ≡ validList h t count list) where

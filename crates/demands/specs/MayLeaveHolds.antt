@@ -6,7 +6,7 @@ use Rattle.store.specs.Allot.{Allotment}
 use Rattle.store.specs.Fields.{Written}
 use Rattle.demands.specs.World.{World, Call, newWorld, after}
 use Rattle.demands.specs.History.{History, world}
-use Rattle.demands.specs.Allowed.{made, MayLeave, by-allot, by-read, by-write, by-collect, by-survey, Allowed, first, next}
+use Rattle.demands.specs.MayLeave.{made, MayLeave, by-allot, by-read, by-write, by-collect, by-survey, Allowed, first, next}
 use Rattle.demands.specs.SamenessHolds.{set-up-settled, collect-settled, allot-settled, write-settled}
 
 -- A call may leave just what it leaves.
