@@ -25,12 +25,12 @@ InHeld past = InObject (world past .heap) (Held past)
 abbrev pub FreeRun : History → Interval → Type 0
 FreeRun past = Longest (keepOf past) (InHeld past) 1 (length (world past .heap))
 
--- How an allot of s words with p references answers, whose number is `code`.
-pub record AllotAnswers (past : History) (s p code : ℕ) : Type 0 where
+-- How an allot of s words with p references answers, whose number is `code`, where t is the keep length and Run tells the runs that are free.
+pub record AllotAnswers (t : ℕ) (Run : Interval → Type 0) (s p code : ℕ) : Type 0 where
   -- It refuses with 7 exactly where no such object may be asked for.
-  pub unasked : (code ≡ 7) ↔ (askable (keepOf past) s p ≡ false)
+  pub unasked : (code ≡ 7) ↔ (askable t s p ≡ false)
   -- It lacks room, which is 8, exactly where one may be asked for and no such run has s words.
-  pub lacks : (code ≡ 8) ↔ (askable (keepOf past) s p ≡ true) × ((i : Interval) → FreeRun past i → i .size < s)
+  pub lacks : (code ≡ 8) ↔ (askable t s p ≡ true) × ((i : Interval) → Run i → i .size < s)
   -- It has no other number but 0.
   pub others : code ≢ 0 → List·Memᴰ code (7 ∷ 8 ∷ [])
 
@@ -51,7 +51,7 @@ pub record Demand3 (past : History) : Type 0 where
   -- No collection is refused.
   pub collects : (roots : List ℕ) → Rooted (world past) roots → collectsOn (world past) roots .answer .code ≡ 0
   -- Allotting lacks room only if no such run fits.
-  pub allots : (s p : ℕ) → AllotAnswers past s p (allotsOn (world past) s p .answer .code)
+  pub allots : (s p : ℕ) → AllotAnswers (keepOf past) (FreeRun past) s p (allotsOn (world past) s p .answer .code)
   -- The keep length is that of set-up, and all that is lent is within the limits still.
   pub keep : world past .state .keep ≡ keepOf past
   pub lent : Lent (world past .state) (world past .heap) [] (world past .map) (world past .stack) (world past .list)

@@ -3,7 +3,7 @@ use Prim.Native.Nat.{ℕ, _+_, _-_, _*_, _≤_, _<_}
 use mathlib.Core.Path.{_≡_, refl, sym}
 use mathlib.Core.Logic.{_≢_, _↔_, _⊎_, inl, inr}
 use mathlib.Core.Bool.{Bool, true, false, _&&_}
-use mathlib.Core.List.{List, [], _∷_, List·Memᴰ, List·Memᴰ·head, List·Memᴰ·tail}
+use mathlib.Core.List.{List·Memᴰ·head, List·Memᴰ·tail}
 use native.Mathlib.Omega.{arith}
 use lib.ListN.{length, getD, take, take-append-drop}
 use lib.Seq.{length-take-le}
@@ -12,7 +12,7 @@ use borrow.Author.Tests.{le-leb, lt-ltb, eqb-true, eq-eqb, ne-eqb}
 use Rattle.words.specs.Header.{sizeAt, headerAt}
 use Rattle.layout.specs.Limits.{mapWords, listWords}
 use Rattle.layout.specs.declared.Interval.{Interval}
-use Rattle.runs.specs.Lists.{intervalAt}
+use Rattle.runs.specs.Lists.{intervalAt, Member}
 use Rattle.runs.specs.LongestLaws.{clash}
 use Rattle.freelist.specs.Records.{records}
 use Rattle.freelist.specs.Search.{fitting}
@@ -26,6 +26,7 @@ use Rattle.store.specs.Fields.{wordOf}
 use Rattle.demands.specs.World.{World, allot, fieldAt, allotsOn, after}
 use Rattle.demands.specs.History.{gives}
 use Rattle.demands.specs.History.{gives}
+use Rattle.demands.specs.Demand3.{AllotAnswers}
 use Rattle.demands.specs.Stands.{On, freeOf, Stands}
 use Rattle.demands.specs.StandsLaws.{sized, list-part, part-read, free-fits, list-valid}
 use Rattle.demands.specs.PlacedLaws.{Picked, place, clear, next, next-new, next-zeros, header-still, field-still, marked, start-new, rest, rest-fits, relist, grown-cases, grown-still, grown-stands}
@@ -81,7 +82,7 @@ module _ {w : World} (g : Stands w) where
 
     -- Every free interval is too short.
     abbrev pub Short : Type 0
-    Short = (j : ℕ) → j < length (freeOf w) → intervalAt (freeOf w) j .size < s
+    Short = (i : Interval) → Member (freeOf w) i → i .size < s
 
     -- What holds of refusals 7 and 8, each for its reason, and of the new object in its place, holds of every allot.
     pub allot-cases : (P : Allotment → Type 0) → (askable (w .state .keep) s p ≡ false → P (refuse 7)) → (askable (w .state .keep) s p ≡ true → Short → P (refuse 8)) → ((j : ℕ) (x : Picked w s p j) → P (given j x)) → P (allotsOn w s p)
@@ -91,7 +92,9 @@ module _ {w : World} (g : Stands w) where
         refused code e q = rw (← e, take-append-drop m (w .map), take-append-drop n (w .list)) q
 
         found : asked-code ≡ 0 → askable (w .state .keep) s p ≡ true → (f : Found) → f ≡ fitting s (records (w .state .count) (take n (w .list))) → P (joined (w .state) (w .map) (w .list) inner)
-        found none e Nothing q = refused 8 (allot-full parts s p refl none q refl) (eight e (rw (part-read g) at (fitting-none s (records (w .state .count) (take n (w .list))) q refl)))
+        found none e Nothing q =
+            let short = rw (part-read g) at (fitting-none s (records (w .state .count) (take n (w .list))) q refl) in
+            refused 8 (allot-full parts s p refl none q refl) (eight e (λ i m. rw (m .2) at (short (m .0) (m .1))))
         found none e (At j) q =
             let x = chosen parts s p refl none q refl in
             rw (x .left, placed-given (picked x)) (new j (picked x))
@@ -122,12 +125,6 @@ pub record AllotLeaves (w : World) (s p : ℕ) (x : Allotment) : Type 0 where
   -- The others keep their headers and fields.
   pub old-header : (b : ℕ) → On w b → headerAt (x .heap) b ≡ headerAt (w .heap) b
   pub old-field : (b k : ℕ) → On w b → k < sizeAt (w .heap) b - 1 → getD (x .heap) (wordOf b k) 0 ≡ fieldAt w b k
-
--- The number that an allot answers, and its reasons.
-pub record AllotCode (w : World) (s p : ℕ) (free : List Interval) (code : ℕ) : Type 0 where
-  pub unasked : (code ≡ 7) ↔ (askable (w .state .keep) s p ≡ false)
-  pub lacks : (code ≡ 8) ↔ (askable (w .state .keep) s p ≡ true) × ((j : ℕ) → j < length free → intervalAt free j .size < s)
-  pub others : code ≢ 0 → List·Memᴰ code (7 ∷ 8 ∷ [])
 
 module _ {w : World} (g : Stands w) (s p : ℕ) where
   -- A refusal leaves the world as it was.
@@ -167,13 +164,13 @@ module _ {w : World} (g : Stands w) (s p : ℕ) where
   allot-leaves = allot-cases g s p (AllotLeaves w s p) (λ e. refused-leaves 7 (λ z. omega arith)) (λ e short. refused-leaves 8 (λ z. omega arith)) given-leaves
 
   -- What every allot answers.
-  pub allot-code : AllotCode w s p (freeOf w) (allotsOn w s p .answer .code)
-  allot-code = allot-cases g s p (λ x. AllotCode w s p (freeOf w) (x .answer .code))
+  pub allot-code : AllotAnswers (w .state .keep) (Member (freeOf w)) s p (allotsOn w s p .answer .code)
+  allot-code = allot-cases g s p (λ x. AllotAnswers (w .state .keep) (Member (freeOf w)) s p (x .answer .code))
       (λ e. record { unasked = (λ z. e, λ z. refl); lacks = (λ z. absurd (omega arith), λ z. absurd (clash (z .0) e)); others = λ z. List·Memᴰ·head refl })
       (λ e short. record { unasked = (λ z. absurd (omega arith), λ z. absurd (clash e z)); lacks = (λ z. (e, short), λ z. refl); others = λ z. List·Memᴰ·tail (List·Memᴰ·head refl) })
       (λ j x. record {
         unasked = (λ z. absurd (omega arith), λ z. absurd (clash (able x) z));
-        lacks = (λ z. absurd (omega arith), λ z. absurd (omega (arith, z .1 j (x .front .there), x .front .high)));
+        lacks = (λ z. absurd (omega arith), λ z. absurd (omega (arith, z .1 (intervalAt (freeOf w) j) (j, x .front .there, refl), x .front .high)));
         others = λ z. absurd (z refl);
       })
     where

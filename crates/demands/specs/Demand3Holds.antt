@@ -13,10 +13,9 @@ use Rattle.words.specs.declared.header.Header.{Header}
 use Rattle.layout.specs.Limits.{mapWords}
 use Rattle.layout.specs.RefusalLaws.{by-test}
 use Rattle.layout.specs.declared.Interval.{Interval}
-use Rattle.runs.specs.Lists.{intervalAt, Member}
+use Rattle.runs.specs.Lists.{Member, Longest}
 use Rattle.runs.specs.CoverLaws.{start-take}
 use Rattle.runs.specs.LongestLaws.{clash}
-use Rattle.demands.specs.Reach.{Reach}
 use Rattle.demands.specs.Demand2.{Tells, Lists}
 use Rattle.demands.specs.ListsLaws.{covered-tells, list-lists}
 use Rattle.demands.specs.World.{World, allot, read, write, collect, survey, fieldAt, allotsOn, after}
@@ -25,7 +24,7 @@ use Rattle.demands.specs.Demand3.{InHeld, FreeRun, AllotAnswers, Demand3
 use Rattle.demands.specs.Stands.{On, freeOf, Stands}
 use Rattle.demands.specs.StandsLaws.{objects-same, list-read, keeps as standing-keeps}
 use Rattle.demands.specs.Demand3SetUpHolds.{set-up-left, set-up-none, set-up-stands}
-use Rattle.demands.specs.Demand3AllotHolds.{AllotLeaves, AllotCode, allot-leaves, allot-zeros, allot-code}
+use Rattle.demands.specs.Demand3AllotHolds.{AllotLeaves, allot-leaves, allot-zeros, allot-code}
 use Rattle.demands.specs.Demand3WriteHolds.{write-stands, write-long, write-header, write-field}
 use Rattle.demands.specs.Demand3CollectHolds.{reached-on, collect-succeeds, collect-starts, collect-keep, collect-stands}
 
@@ -141,22 +140,19 @@ module _ (past : History) (keeps : Keeps past) where
   lists-runs : Lists (world past .state .keep) (length (world past .heap)) (InHeld past) (world past .state .count) (world past .list)
   lists-runs = list-lists (world past .heap) (world past .map) (standing-keeps (told .stands)) (covered-tells (world past .heap) (world past .map) (told .held)) (list-read (told .stands)) (told .stands .listed)
 
-  -- What an allot answers.
-  allot-answers : (s p : ℕ) → AllotAnswers past s p (allotsOn (world past) s p .answer .code)
-  allot-answers s p = record {
-    unasked = rw (← told .keep) (c .unasked);
-    lacks = (
-      λ e. let x = c .lacks .0 e in (rw (← told .keep) (x .0), λ i run. let m = member i run in rw (m .2) at (x .1 (m .0) (m .1))),
-      λ e. c .lacks .1 (rw (told .keep) (e .0), λ j there. e .1 (intervalAt (freeOf (world past)) j) (rw (← told .keep) (lists-runs .longest _ .0 (rw (list-read (told .stands)) (j, there, refl))))),
-    );
-    others = c .others;
-  }
-    where
-      c : AllotCode (world past) s p (freeOf (world past)) (allotsOn (world past) s p .answer .code)
-      c = allot-code (told .stands) s p
+  -- The free intervals are the runs that are free.
+  listed-run : (i : Interval) → Member (freeOf (world past)) i ↔ Longest (world past .state .keep) (InHeld past) 1 (length (world past .heap)) i
+  listed-run i = rw (← list-read (told .stands)) (lists-runs .longest i)
 
-      member : (i : Interval) → FreeRun past i → Member (freeOf (world past)) i
-      member i run = rw (list-read (told .stands)) at (lists-runs .longest i .1 (rw (told .keep) run))
+  -- What an allot answers.
+  allot-answers : (s p : ℕ) → AllotAnswers (keepOf past) (FreeRun past) s p (allotsOn (world past) s p .answer .code)
+  allot-answers s p =
+      let x = allot-code (told .stands) s p in
+      rw (← told .keep) (record {
+        unasked = x .unasked;
+        lacks = (λ e. let y = x .lacks .0 e in (y .0, λ i run. y .1 i (listed-run i .1 run)), λ e. x .lacks .1 (e .0, λ i m. e .1 i (listed-run i .0 m)));
+        others = x .others;
+      })
 
   -- All of it.
   pub demand-3 : Demand3 past
