@@ -1,6 +1,7 @@
 """What the scripts for the trial programs share: rules, and how lines and answers are written."""
 import bisect
 import os
+import re
 import sys
 
 MAX_WORDS, MAX_KEEP, MAX_ROOTS, SMALL = 65536, 65535, 65536, 400
@@ -20,16 +21,8 @@ def rooms(h, t):
 
 def sweep(free, t):
     """The longest runs of free words with t words or more; free[0] is no word of a run."""
-    runs, start = [], None
-    for w in range(1, len(free) + 1):
-        if w < len(free) and free[w]:
-            if start is None:
-                start = w
-        elif start is not None:
-            if w - start >= t:
-                runs.append((start, w - start))
-            start = None
-    return runs
+    runs = re.finditer(b"\1+", b"\0" + bytes(free[1:]))
+    return [(run.start(), len(run[0])) for run in runs if len(run[0]) >= t]
 
 
 def flat(records):
@@ -167,8 +160,8 @@ def collects(state, heap, roots, lent):
     return [0, 0, len(marked), sum(s for _, s in marked), read, peak, h, t, len(runs)], (map_of(h, marked), clear[1], left)
 
 
-def total(words):
-    n = 0
+def total(words, n=0):
+    """A sum over words in which each place has a weight of its own, going on from n."""
     for word in words:
         n = (31 * n + word) % 1000003
     return n

@@ -3,10 +3,7 @@
 // the state, any other letter is a call.
 use crate::each;
 use layout::State;
-use libc::STDOUT_FILENO;
-use lines::Line;
-ghost use Prim.Native.Nat.{_<_, _≤_};
-ghost use lib.ListN.{length};
+ghost use Prim.Native.Nat.{_≤_};
 
 // Writes the words that a line gives to a buffer: from which on, how many, and which.
 fn put(place: [usize; 48], buffer: &mut [u32]) {
@@ -73,17 +70,6 @@ fn turn(
     state
 }
 
-// The line that begins at `at`, as it was printed.
-fn printed(text: &[u8], at: usize) -> Line
-    requires { ⌜ at < length (now text) ⌝ }
-    ensures { λ r. ⌜ (at ≤ r .end) × (r .end ≤ length (now (text .entry))) ⌝ }
-{
-    let line = lines::line_at(text, at);
-    let end = line.end;
-    io::write_all(STDOUT_FILENO, &text[at..end]);
-    line
-}
-
 // The lines of a history from `from` on: prints each, and behind it what came. Where they end.
 fn history(
     text: &[u8],
@@ -102,7 +88,7 @@ fn history(
         if kind == b'b' {
             break;
         }
-        let line = printed(text, at);
+        let line = lines::printed(text, at);
         at = line.end + 1;
         let place = line.place;
         state = turn(kind, place, state, heap, map, stack, list);
@@ -111,21 +97,14 @@ fn history(
     at
 }
 
-// How many words of a buffer a line lends, where it asks for n: none if there are not so many.
-fn part(n: usize) -> usize
-    ensures { λ r. ⌜ r ≤ 131073 ⌝ }
-{
-    if n <= 131073 { n } else { 0 }
-}
-
 // A history in parts of buffers full of junk, as long as a line says. Where it ends.
 fn begin(text: &[u8], from: usize, place: [usize; 48]) -> usize
     ensures { λ r. ⌜ from ≤ r ⌝ }
 {
-    let h = part(place[1]);
-    let m = part(place[2]);
-    let a = part(place[3]);
-    let n = part(place[4]);
+    let h = heaps::part(place[1]);
+    let m = heaps::part(place[2]);
+    let a = heaps::part(place[3]);
+    let n = heaps::part(place[4]);
     let mut heap = heaps::junk();
     let mut map = heaps::junk();
     let mut stack = heaps::junk();
@@ -144,7 +123,7 @@ fn begin(text: &[u8], from: usize, place: [usize; 48]) -> usize
 pub(crate) fn all(text: &[u8]) {
     let mut at = 0;
     while at < text.len() {
-        let line = printed(text, at);
+        let line = lines::printed(text, at);
         lines::end();
         let place = line.place;
         at = begin(text, line.end + 1, place);

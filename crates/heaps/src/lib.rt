@@ -2,6 +2,9 @@
 // it word by word, r is random, o is a chain onward, b a chain back, any other a fan.
 mod random;
 
+pub use random::below;
+pub use random::is_time;
+pub use random::next;
 ghost use mathlib.Core.Path.{_≡_};
 ghost use Prim.Native.Nat.{_≤_};
 ghost use lib.ListN.{length};
@@ -11,6 +14,13 @@ pub fn junk() -> [u32; 131073]
     ensures { λ r. ⌜ 131073 ≡ length r ⌝ }
 {
     [7; 131073]
+}
+
+// How many words of a buffer a line lends, where it asks for n: none if there are not so many.
+pub fn part(n: usize) -> usize
+    ensures { λ r. ⌜ r ≤ 131073 ⌝ }
+{
+    if n <= 131073 { n } else { 0 }
 }
 
 // The low 32 bits of a number.

@@ -5,12 +5,12 @@ ghost use Prim.Native.Nat.{_<_, _≤_};
 ghost use lib.ListN.{length};
 
 // The number after x in a row of pseudo-random ones.
-fn next(x: usize) -> usize {
+pub fn next(x: usize) -> usize {
     (x % 2147483648 * 1103515245 + 12345) % 2147483648
 }
 
 // A number below n that goes by x.
-fn below(x: usize, n: usize) -> usize
+pub fn below(x: usize, n: usize) -> usize
     requires { ⌜ 1 ≤ n ⌝ }
     ensures { λ r. ⌜ r < n ⌝ }
 {
@@ -18,7 +18,7 @@ fn below(x: usize, n: usize) -> usize
 }
 
 // Whether this is the one time in n.
-fn is_time(x: usize, n: usize) -> bool {
+pub fn is_time(x: usize, n: usize) -> bool {
     if n == 0 {
         return false;
     }

@@ -58,6 +58,17 @@ pub fn line_at(text: &[u8], at: usize) -> Line
     Line { place, end }
 }
 
+// The line that begins at `at`, as it was printed.
+pub fn printed(text: &[u8], at: usize) -> Line
+    requires { ⌜ at < length (now text) ⌝ }
+    ensures { λ r. ⌜ (at ≤ r .end) × (r .end ≤ length (now (text .entry))) ⌝ }
+{
+    let line = line_at(text, at);
+    let end = line.end;
+    io::write_all(STDOUT_FILENO, &text[at..end]);
+    line
+}
+
 // Prints " gave" and the numbers that came.
 pub fn gave(came: &[usize]) {
     io::write_all(STDOUT_FILENO, b" gave");
@@ -85,11 +96,25 @@ fn all_words(list: &[u32], space: &[u8]) {
     }
 }
 
-// A sum over the words of a list in which each place has a weight of its own.
-fn sum(list: &[u32]) -> usize {
+// A sum with one number more, in which each place has a weight of its own.
+fn one_more(sum: usize, n: usize) -> usize {
+    (sum % 1000003 * 31 + n % 1000003) % 1000003
+}
+
+// A sum with more numbers.
+pub fn sum_on(sum: usize, came: &[usize]) -> usize {
+    let mut sum = sum;
+    for i in 0..came.len() {
+        sum = one_more(sum, came[i]);
+    }
+    sum
+}
+
+// A sum over the words of a list.
+pub fn sum(list: &[u32]) -> usize {
     let mut sum = 0;
     for i in 0..list.len() {
-        sum = (sum * 31 + wide(list[i])) % 1000003;
+        sum = one_more(sum, wide(list[i]));
     }
     sum
 }

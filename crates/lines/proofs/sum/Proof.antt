@@ -1,20 +1,17 @@
--- `sum` is safe and ends: the sum stays small.
-use Prim.Native.Nat.{_-_, _≤_, _<_}
+-- `sum` is safe and ends.
+use Prim.Native.Nat.{_-_, _≤_}
 use borrow.Author.Needs.{needs}
 use Rattle.lines.proofs.sum.Statement.{statement}
 use Rattle.lines.proofs.sum.Tie as tie
 
 abbrev Inv-loop : tie.InvT-loop
-Inv-loop list sum₀ i₀ i-end sum i = (i ≤ i-end) × (sum < 1000003)
+Inv-loop list sum₀ i₀ i-end sum i = i ≤ i-end
 
 abbrev μ-loop : tie.MeasureT-loop
 μ-loop list sum₀ i₀ i-end sum i = i-end - i
 
 loop-holds : tie.Need-loop-holds Inv-loop μ-loop
 loop-holds c = search needs
-
-mul-sum : tie.Need-mul-sum Inv-loop μ-loop
-mul-sum c = search needs
 
 mul-wide : tie.Need-mul-wide Inv-loop μ-loop
 mul-wide c = search needs
@@ -25,8 +22,8 @@ shared-slice-read-wide c = search needs
 wide-requires : tie.Need-wide-requires Inv-loop μ-loop
 wide-requires c κs = search needs
 
-add-sum : tie.Need-add-sum Inv-loop μ-loop
-add-sum c = search needs
+one-more-requires : tie.Need-one-more-requires Inv-loop μ-loop
+one-more-requires c κs = search needs
 
 add-i : tie.Need-add-i Inv-loop μ-loop
 add-i c = search needs
@@ -47,11 +44,10 @@ sum-spec =
     Inv-loop
     μ-loop
     loop-holds
-    mul-sum
     mul-wide
     shared-slice-read-wide
     wide-requires
-    add-sum
+    one-more-requires
     add-i
     loop-less
     loop-again
