@@ -1,4 +1,4 @@
--- What users look for: how read, write and survey answer, and what references name.
+-- What users look for: how read, write and survey answer, what references name, and what a collection keeps.
 use Prim.Native.Nat.{ℕ, _-_, _≤_, _<_}
 use mathlib.Core.Path.{_≡_, refl, sym, ap, _∙_}
 use mathlib.Core.Logic.{_⊎_, inl, inr}
@@ -16,13 +16,15 @@ use Rattle.layout.specs.declared.State.{State}
 use Rattle.freelist.specs.Records.{records}
 use Rattle.freelist.specs.Figures.{figuresOf}
 use Rattle.store.specs.Survey.{surveys}
-use Rattle.store.specs.Fields.{Written, objectCode, fieldCode, reads, takes}
+use Rattle.store.specs.Fields.{Written, objectCode, fieldCode, takes}
 use Rattle.store.specs.FieldsLaws.{start-takes, takes-start, no-start, no-field, has-field, read-refused, read-given, write-refused, write-untaken, write-stored}
-use Rattle.demands.specs.World.{writesOn}
-use Rattle.demands.specs.History.{History, world, Keeps, Held, allottedAs, lastWritten}
+use Rattle.demands.specs.Reach.{Reach}
+use Rattle.demands.specs.World.{fieldAt, readsOn, surveysOn, writesOn, On}
+use Rattle.demands.specs.History.{History, world, keepOf, Rooted, Keeps, Held, allottedAs}
 use Rattle.demands.specs.Answers.{ReadAnswers, WriteAnswers}
-use Rattle.demands.specs.Stands.{On}
-use Rattle.demands.specs.StandsLaws.{on-formed, part-read, list-read, list-valid}
+use Rattle.demands.specs.Stands.{}
+use Rattle.demands.specs.StandsLaws.{part-read, list-read, list-valid}
+use Rattle.demands.specs.Demand3CollectHolds.{reached-on}
 use Rattle.demands.specs.Demand3WriteHolds.{field-code}
 use Rattle.demands.specs.Demand3Holds.{Agrees, agrees, demand-3}
 
@@ -69,17 +71,16 @@ module _ (past : History) (keeps : Keeps past) where
           is-object (has-field heap (state .keep) map a k on (told .stands .objects .formed a on) refl (rw (equal-size (told .header a on)) has))
 
       -- A reference field is empty or names a held object.
-      pub references-held : k < allottedAs past a .refs → (lastWritten past a k ≡ 0) ⊎ Held past (lastWritten past a k)
+      pub references-held : k < allottedAs past a .refs → (fieldAt (world past) a k ≡ 0) ⊎ Held past (fieldAt (world past) a k)
       references-held has =
           let in-refs : k < refsAt heap a = rw (equal-refs (told .header a on)) has in
-          let same = told .field a k on (omega (arith, in-refs, on-formed (told .stands) on .fewer)) in
-          elim (ℕ-discrete (lastWritten past a k) 0) [
+          elim (ℕ-discrete (fieldAt (world past) a k) 0) [
             | yes none ↦ inl none
-            | no some ↦ inr (told .held (lastWritten past a k) .0 (rw same at (told .stands .named a k on in-refs (rw same some))))
+            | no some ↦ inr (told .held (fieldAt (world past) a k) .0 (told .stands .named a k on in-refs some))
           ]
 
     -- How a read answers.
-    pub read-answers : ReadAnswers past a k (reads state heap map a k)
+    pub read-answers : ReadAnswers past a k (readsOn (world past) a k)
     read-answers = record {
       given = λ x. sym (read-given state heap map a k (number-none (x .0) (x .1)) refl) ∙ rw (demand-3 past keeps .words a k (x .0) (x .1)) refl;
       fieldless = λ held end. sym (read-refused state heap map a k (number-fieldless held end) (λ e. omega arith));
@@ -104,9 +105,13 @@ module _ (past : History) (keeps : Keeps past) where
         may held (inr (inr named)) = inr (inr (told .held v .1 named))
 
   -- A survey gives the figures of the list.
-  pub survey-answers : surveys (world past .state) (world past .list) ≡ record { code = 0; figures = figuresOf (records (world past .state .count) (world past .list)) }
+  pub survey-answers : surveysOn (world past) ≡ record { code = 0; figures = figuresOf (records (world past .state .count) (world past .list)) }
   unfolding surveys
   survey-answers =
       let g = told .stands in
       let n : ℕ = listWords (state .words) (state .keep) in
       rw (suits-within state heap (g .lent .bounded .suit), le-leb n (length (world past .list)) (g .lent .list-room), list-valid g, part-read g, list-read g) refl
+
+  -- Whatever the roots of a collection reach is held, so afterwards just that is.
+  pub reached-held : {roots : List ℕ} → Rooted (world past) roots → {a : ℕ} → Reach heap (keepOf past) roots a → Held past a
+  reached-held rooted {a} reached = told .held a .0 (reached-on (told .stands) rooted (rw (told .keep) reached))

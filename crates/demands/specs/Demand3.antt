@@ -1,5 +1,5 @@
 -- Demand 3: what stands after every call of a history, said of the objects that are held.
-use Prim.Native.Nat.{ℕ, _-_, _<_}
+use Prim.Native.Nat.{ℕ, _+_, _-_, _≤_, _<_}
 use mathlib.Core.Path.{_≡_}
 use mathlib.Core.Logic.{_≢_, _↔_}
 use mathlib.Core.Bool.{true, false}
@@ -15,7 +15,7 @@ use Rattle.demands.specs.Reach.{InObject, Objects}
 use Rattle.demands.specs.Lent.{Lent}
 use Rattle.demands.specs.Demand2.{Tells, Lists}
 use Rattle.demands.specs.World.{fieldAt, allotsOn, collectsOn}
-use Rattle.demands.specs.History.{History, world, keepOf, Rooted, Held, allottedAs, lastWritten}
+use Rattle.demands.specs.History.{History, world, wordsOf, keepOf, Rooted, gives, Held, allottedAs, lastWritten}
 
 -- Word w lies in an object that is held.
 abbrev pub InHeld : History → ℕ → Type 0
@@ -42,6 +42,8 @@ pub record Demand3 (past : History) : Type 0 where
   pub bits : Tells (bitAt (take (mapWords (length (world past .heap))) (world past .map))) (Held past)
   -- They are well-formed, and disjoint.
   pub objects : Objects (world past .heap) (keepOf past) (Held past)
+  -- An object that an allot gives then has no word of theirs.
+  pub fresh : (s p a w : ℕ) → gives (world past) s p a ≡ true → a ≤ w → w < a + s → ¬ InHeld past w
   -- Their headers are those allotted.
   pub headers : (a : ℕ) → Held past a → headerAt (world past .heap) a ≡ allottedAs past a
   -- Their words are those last written.
@@ -49,9 +51,12 @@ pub record Demand3 (past : History) : Type 0 where
   -- The list is every longest run outside them that has the keep length, with zeros behind it.
   pub lists : Lists (keepOf past) (length (world past .heap)) (InHeld past) (world past .state .count) (world past .list)
   -- No collection is refused.
-  pub collects : (roots : List ℕ) → Rooted (world past) roots → collectsOn (world past) roots .answer .code ≡ 0
-  -- Allotting lacks room only if no such run fits.
-  pub allots : (s p : ℕ) → AllotAnswers (keepOf past) (FreeRun past) s p (allotsOn (world past) s p .answer .code)
-  -- The keep length is that of set-up, and all that is lent is within the limits still.
+  pub unrefused : (roots : List ℕ) → Rooted (world past) roots → collectsOn (world past) roots .answer .code ≡ 0
+  -- Allotting lacks room only if no such run fits, and is refused for nothing else but what is asked.
+  pub room : (s p : ℕ) → AllotAnswers (keepOf past) (FreeRun past) s p (allotsOn (world past) s p .answer .code)
+  -- The heap has as many words as at set-up.
+  pub long : length (world past .heap) ≡ wordsOf past
+  -- The keep length is that of set-up.
   pub keep : world past .state .keep ≡ keepOf past
+  -- All that is lent is within the limits still.
   pub lent : Lent (world past .state) (world past .heap) [] (world past .map) (world past .stack) (world past .list)

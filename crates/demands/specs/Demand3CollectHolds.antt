@@ -17,9 +17,9 @@ use Rattle.demands.specs.Demand1.{CollectEnds, Succeeded}
 use Rattle.demands.specs.Demand1CollectHolds.{collect-ends}
 use Rattle.demands.specs.Demand2.{Demand2, Finds}
 use Rattle.demands.specs.Demand2Holds.{demand-2}
-use Rattle.demands.specs.World.{World, collect, collectsOn, after}
+use Rattle.demands.specs.World.{World, collect, collectsOn, after, On, effect}
 use Rattle.demands.specs.History.{Rooted}
-use Rattle.demands.specs.Stands.{On, Stands}
+use Rattle.demands.specs.Stands.{Stands}
 use Rattle.demands.specs.StandsLaws.{lent-still, objects-same, on-formed}
 
 module _ {w : World} (g : Stands w) {roots : List ℕ} (rooted : Rooted w roots) where
@@ -53,7 +53,7 @@ module _ {w : World} (g : Stands w) {roots : List ℕ} (rooted : Rooted w roots)
 
   -- Afterwards just what is reached is on the map.
   pub collect-starts : (a : ℕ) → On (after w (collect roots)) a ↔ Reach (w .heap) (w .state .keep) roots a
-  unfolding after
+  unfolding effect
   collect-starts = collect-finds .starts
 
   -- The keep length stays.
@@ -67,7 +67,7 @@ module _ {w : World} (g : Stands w) {roots : List ℕ} (rooted : Rooted w roots)
 
   -- The world stands afterwards.
   pub collect-stands : Stands (after w (collect roots))
-  unfolding after
+  unfolding effect
   collect-stands =
       let f = collect-finds in
       let out : Left = collectsOn w roots in

@@ -1,9 +1,10 @@
 -- Demand 3 holds.
-use Prim.Native.Nat.{ℕ, _-_, _<_}
-use mathlib.Core.Path.{_≡_, refl, _∙_}
+use Prim.Native.Nat.{ℕ, _+_, _-_, _≤_, _<_}
+use mathlib.Core.Path.{_≡_, refl, sym, _∙_}
 use mathlib.Core.Logic.{_↔_, inl, inr}
-use mathlib.Core.Bool.{false}
+use mathlib.Core.Bool.{true, false}
 use mathlib.Core.List.{List}
+use native.Mathlib.Omega.{arith}
 use lib.ListN.{length, take}
 use Rattle.words.specs.HeaderLaws.{equal-size}
 use Rattle.words.specs.Header.{sizeAt, headerAt}
@@ -18,11 +19,11 @@ use Rattle.runs.specs.CoverLaws.{start-take}
 use Rattle.runs.specs.LongestLaws.{clash}
 use Rattle.demands.specs.Demand2.{Tells, Lists}
 use Rattle.demands.specs.ListsLaws.{covered-tells, list-lists}
-use Rattle.demands.specs.World.{World, allot, read, write, collect, survey, fieldAt, allotsOn, after}
-use Rattle.demands.specs.History.{History, set-up, _then_, world, keepOf, Rooted, Premise, Keeps, gives, Held, allottedAs, lastWritten}
+use Rattle.demands.specs.World.{World, allot, read, write, collect, survey, fieldAt, allotsOn, after, On, effect}
+use Rattle.demands.specs.History.{History, set-up, _then_, world, wordsOf, keepOf, Rooted, Premise, Keeps, gives, Held, allottedAs, lastWritten}
 use Rattle.demands.specs.Demand3.{InHeld, FreeRun, AllotAnswers, Demand3}
-use Rattle.demands.specs.Stands.{On, freeOf, Stands}
-use Rattle.demands.specs.StandsLaws.{objects-same, list-read, keeps as standing-keeps}
+use Rattle.demands.specs.Stands.{freeOf, Stands}
+use Rattle.demands.specs.StandsLaws.{sized, objects-same, list-read, keep-some}
 use Rattle.demands.specs.Demand3SetUpHolds.{set-up-left, set-up-none, set-up-stands}
 use Rattle.demands.specs.Demand3AllotHolds.{AllotLeaves, allot-leaves, allot-zeros, allot-code}
 use Rattle.demands.specs.Demand3WriteHolds.{write-stands, write-long, write-header, write-field}
@@ -31,6 +32,7 @@ use Rattle.demands.specs.Demand3CollectHolds.{reached-on, collect-succee
 -- The world stands, and what is on its map is what the history says.
 pub record Agrees (past : History) : Type 0 where
   pub stands : Stands (world past)
+  pub long : length (world past .heap) ≡ wordsOf past
   pub keep : world past .state .keep ≡ keepOf past
   pub held : (a : ℕ) → On (world past) a ↔ Held past a
   pub header : (a : ℕ) → On (world past) a → headerAt (world past .heap) a ≡ allottedAs past a
@@ -38,9 +40,10 @@ pub record Agrees (past : History) : Type 0 where
 
 -- After an allot.
 allot-agrees : {past : History} (s p : ℕ) → Agrees past → Agrees (past then allot s p)
-unfolding world after keepOf Held allottedAs lastWritten gives
+unfolding world effect wordsOf keepOf Held allottedAs lastWritten gives
 allot-agrees {past} s p ih = record {
   stands = x .stands;
+  long = sized (x .stands) ∙ x .words ∙ sym (sized (ih .stands)) ∙ ih .long;
   keep = x .keep ∙ ih .keep;
   held = λ a. (
     λ on. elim (x .on a .0 on) [ inl old ↦ inl (ih .held a .0 old) | inr new ↦ inr new ],
@@ -65,9 +68,10 @@ allot-agrees {past} s p ih = record {
 
 -- After a write.
 write-agrees : {past : History} (a k v : ℕ) → Agrees past → Agrees (past then write a k v)
-unfolding world after keepOf Held allottedAs lastWritten
+unfolding world effect wordsOf keepOf Held allottedAs lastWritten
 write-agrees {past} a k v ih = record {
   stands = write-stands g a k v;
+  long = write-long g a k v ∙ ih .long;
   keep = ih .keep;
   held = rw (write-long g a k v) (ih .held);
   header = λ b on. write-header g a k v b (was b on) ∙ ih .header b (was b on);
@@ -85,9 +89,10 @@ write-agrees {past} a k v ih = record {
 
 -- After a collection.
 collect-agrees : {past : History} {roots : List ℕ} → Rooted (world past) roots → Agrees past → Agrees (past then collect roots)
-unfolding world after keepOf Held allottedAs lastWritten
+unfolding world effect wordsOf keepOf Held allottedAs lastWritten
 collect-agrees {past} {roots} rooted ih = record {
   stands = collect-stands g rooted;
+  long = ih .long;
   keep = collect-keep g rooted ∙ ih .keep;
   held = λ a. (
     λ on. let p = collect-starts g rooted a .0 on in (ih .held a .0 (reached-on g rooted p), rw (ih .keep) at p),
@@ -105,9 +110,10 @@ collect-agrees {past} {roots} rooted ih = record {
 
 -- After set-up.
 set-up-agrees : (heap : List ℕ) (t : ℕ) (map stack list : List ℕ) → Keeps (set-up heap t map stack list) → Agrees (set-up heap t map stack list)
-unfolding Keeps world keepOf Held
+unfolding Keeps world wordsOf keepOf Held
 set-up-agrees heap t map stack list lent = record {
   stands = set-up-stands lent;
+  long = rw (set-up-left lent);
   keep = rw (set-up-left lent);
   held = λ a. (set-up-none lent a, λ e. absurd e);
   header = λ a on. absurd (set-up-none lent a on);
@@ -116,13 +122,13 @@ set-up-agrees heap t map stack list lent = record {
 
 -- After every call of a history that keeps the premises.
 pub agrees : (past : History) → Keeps past → Agrees past
-unfolding Keeps Premise world after keepOf Held allottedAs lastWritten
+unfolding Keeps Premise world effect wordsOf keepOf Held allottedAs lastWritten
 agrees (set-up heap t map stack list) keeps = set-up-agrees heap t map stack list keeps
 agrees (past then allot s p) keeps = allot-agrees s p (agrees past (keeps .0))
-agrees (past then read b j) keeps = let x = agrees past (keeps .0) in record { stands = x .stands; keep = x .keep; held = x .held; header = x .header; field = x .field }
+agrees (past then read b j) keeps = let x = agrees past (keeps .0) in record { stands = x .stands; long = x .long; keep = x .keep; held = x .held; header = x .header; field = x .field }
 agrees (past then write b j v) keeps = write-agrees b j v (agrees past (keeps .0))
 agrees (past then collect roots) keeps = collect-agrees (keeps .1) (agrees past (keeps .0))
-agrees (past then survey) keeps = let x = agrees past (keeps .0) in record { stands = x .stands; keep = x .keep; held = x .held; header = x .header; field = x .field }
+agrees (past then survey) keeps = let x = agrees past (keeps .0) in record { stands = x .stands; long = x .long; keep = x .keep; held = x .held; header = x .header; field = x .field }
 
 module _ (past : History) (keeps : Keeps past) where
   -- What the history says of the world.
@@ -138,7 +144,7 @@ module _ (past : History) (keeps : Keeps past) where
 
   -- The list is the one that it must be.
   lists-runs : Lists (world past .state .keep) (length (world past .heap)) (InHeld past) (world past .state .count) (world past .list)
-  lists-runs = list-lists (world past .heap) (world past .map) (standing-keeps (told .stands)) (covered-tells (world past .heap) (world past .map) (told .held)) (list-read (told .stands)) (told .stands .listed)
+  lists-runs = list-lists (world past .heap) (world past .map) (keep-some (told .stands)) (covered-tells (world past .heap) (world past .map) (told .held)) (list-read (told .stands)) (told .stands .listed)
 
   -- The free intervals are the runs that are free.
   listed-run : (i : Interval) → Member (freeOf (world past)) i ↔ Longest (world past .state .keep) (InHeld past) 1 (length (world past .heap)) i
@@ -154,17 +160,24 @@ module _ (past : History) (keeps : Keeps past) where
         others = x .others;
       })
 
+  -- A new object has no word of what is held.
+  new-apart : (s p a w : ℕ) → gives (world past) s p a ≡ true → a ≤ w → w < a + s → ¬ InHeld past w
+  unfolding gives
+  new-apart s p a w new low high (b, held, from, to) = elim (allot-leaves (told .stands) s p .beside a b new (told .held b .1 held)) [ inl before ↦ omega arith | inr behind ↦ omega arith ]
+
   -- All of it.
   pub demand-3 : Demand3 past
   demand-3 = record {
     starts = told .held;
     bits = bits-held;
     objects = rw (← told .keep) (objects-same (world past .heap) (world past .heap) refl (λ a on. refl) (λ a e. told .held a .1 e) (told .stands .objects));
+    fresh = new-apart;
     headers = λ a e. told .header a (told .held a .1 e);
     words = λ a k e has. let on = told .held a .1 e in told .field a k on (rw (equal-size (told .header a on)) has);
     lists = rw (← told .keep) lists-runs;
-    collects = λ roots rooted. collect-succeeds (told .stands) rooted;
-    allots = allot-answers;
+    unrefused = λ roots rooted. collect-succeeds (told .stands) rooted;
+    room = allot-answers;
+    long = told .long;
     keep = told .keep;
     lent = told .stands .lent;
   }

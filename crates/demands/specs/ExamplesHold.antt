@@ -17,7 +17,7 @@ use Rattle.collector.specs.Collect.{collectsIn, collects}
 use Rattle.store.specs.Allot.{askedCode, withObject, placed, allotsIn, allots}
 use Rattle.store.specs.Fields.{objectCode, fieldCode, reads, takes, writes}
 use Rattle.store.specs.Survey.{surveys}
-use Rattle.demands.specs.World.{newWorld, after, answers}
+use Rattle.demands.specs.World.{newWorld, effect}
 use Rattle.demands.specs.History.{world, onward}
 use Rattle.demands.specs.Examples.{Example, laid, fresh, seen, table}
 
@@ -25,7 +25,7 @@ use Rattle.demands.specs.Examples.{Example, laid, fresh, seen, table}
 pub examples-hold : map seen table ≡ map Example.expected table
 unfolding
     table seen fresh laid
-    newWorld after answers world onward
+    newWorld effect world onward
     setsUp firstList within suits mapWords stackWords listRoom listWords flat shown
     collects collectsIn collection begin run move meet marked overlaps
     freeList runs runsFrom kept sizeAt refsAt headerWord wellFormed fieldsOf bitAt setBit isStart someBelow covered

@@ -7,13 +7,12 @@ use mathlib.Core.Bool.{Bool, true, cond, _&&_}
 use mathlib.Core.List.{List, [], _∷_, List·Memᴰ}
 use lib.ListN.{length}
 use lib.Dec.{eqb}
-use Rattle.words.specs.Map.{isStart}
 use Rattle.words.specs.declared.header.Header.{Header}
 use Rattle.layout.specs.Limits.{maxRoots}
 use Rattle.store.specs.declared.allots.Allotted.{Allotted}
 use Rattle.demands.specs.Reach.{Reach}
 use Rattle.demands.specs.Lent.{Lent}
-use Rattle.demands.specs.World.{World, Call, allot, read, write, collect, survey, newWorld, after, allotsOn, writesOn}
+use Rattle.demands.specs.World.{World, On, Call, allot, read, write, collect, survey, newWorld, after, allotsOn, writesOn}
 
 infixl 20 _then_
 -- A history: one set-up with what is lent to it, and then calls.
@@ -26,7 +25,12 @@ unfoldable pub world : History → World
 world (set-up heap t map stack list) = newWorld heap t map stack list
 world (past then c) = after (world past) c
 
--- The keep length of a history: that of its set-up.
+-- How many words its heap has: as many as at set-up.
+unfoldable pub wordsOf : History → ℕ
+wordsOf (set-up heap t map stack list) = length heap
+wordsOf (past then c) = wordsOf past
+
+-- Its keep length: that of set-up.
 unfoldable pub keepOf : History → ℕ
 keepOf (set-up heap t map stack list) = t
 keepOf (past then c) = keepOf past
@@ -34,7 +38,7 @@ keepOf (past then c) = keepOf past
 -- A root list within the limits, each root of which is empty or names an object on the map then.
 pub record Rooted (w : World) (roots : List ℕ) : Type 0 where
   pub few : length roots ≤ maxRoots
-  pub named : (r : ℕ) → List·Memᴰ r roots → (r ≡ 0) ⊎ (isStart (length (w .heap)) (w .map) r ≡ true)
+  pub named : (r : ℕ) → List·Memᴰ r roots → (r ≡ 0) ⊎ On w r
 
 -- What demand 3 supposes of a call on the world w: of a collection, that its roots are such; of the others, nothing.
 unfoldable pub Premise : World → Call → Type 0
@@ -49,11 +53,13 @@ unfoldable pub Keeps : History → Type 0
 Keeps (set-up heap t map stack list) = Lent (record { words = length heap; keep = t; count = 0 }) heap [] map stack list
 Keeps (past then c) = Keeps past × Premise (world past) c
 
--- The allot of s words with p references on the world w gives the address a.
+-- The answer of an allot gives the address a.
+abbrev pub givesBy : Allotted → ℕ → Bool
+givesBy answer a = eqb (answer .code) 0 && eqb (answer .address) a
+
+-- The allot of s words with p references on the world w gives it.
 unfoldable pub gives : World → ℕ → ℕ → ℕ → Bool
-gives w s p a =
-    let answer : Allotted = allotsOn w s p .answer in
-    eqb (answer .code) 0 && eqb (answer .address) a
+gives w s p a = givesBy (allotsOn w s p .answer) a
 
 -- The write of v to field j of b on the world w is accepted, and that is field k of a.
 unfoldable pub stores : World → ℕ → ℕ → ℕ → ℕ → ℕ → Bool

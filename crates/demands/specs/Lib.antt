@@ -5,7 +5,7 @@ pub mod Demand2
 pub mod World
 pub mod History
 pub mod Demand3
-pub mod Since
+pub mod Along
 pub mod Answers
 pub mod Sameness
 pub mod MayLeave
@@ -29,13 +29,14 @@ pub mod Demand1AllotHolds
 pub mod Demand1CollectHolds
 pub mod Demand2Holds
 pub mod StandsLaws
+pub mod PlacedLaws
 pub mod Demand3SetUpHolds
 pub mod Demand3CollectHolds
 pub mod Demand3WriteHolds
-pub mod PlacedLaws
 pub mod Demand3AllotHolds
 pub mod Demand3Holds
 pub mod LastingHolds
+pub mod ShutOutHold
 pub mod AnswersHold
 pub mod SamenessHolds
 pub mod MayLeaveHolds

@@ -1,4 +1,4 @@
--- Histories by the contracts alone: what each call is allowed to leave to the next.
+-- Histories by the contracts alone: which effects the contract of each call allows.
 use Prim.Native.Nat.{ℕ}
 use mathlib.Core.List.{List}
 use contract.Lifetimes.{Lfts}
@@ -9,29 +9,25 @@ use Rattle.store.specs.Allot.{Allotment}
 use Rattle.store.specs.Fields.{Written}
 use Rattle.store.specs.declared.fields.Reading.{Reading}
 use Rattle.store.specs.declared.surveys.Surveyed.{Surveyed}
-use Rattle.demands.specs.World.{World, Call, allot, read, write, collect, survey}
+use Rattle.demands.specs.World.{World, made, begun, Call, allot, read, write, collect, survey, Effect, ofAllot, ofRead, ofWrite, ofCollect, ofSurvey}
 use Rattle.demands.specs.History.{History, set-up, _then_}
 use Rattle.demands.specs.Sameness.{Loan, setUpContract, collectContract, allotContract, readContract, writeContract, surveyContract}
 
--- A world, put together.
-abbrev pub made : List ℕ → State → List ℕ → List ℕ → List ℕ → World
-made heap state map stack list = record { heap = heap; state = state; map = map; stack = stack; list = list }
-
--- A call on one world may leave another: lent the words of the one, its contract allows an outcome that makes up the other.
-pub data MayLeave : World → Call → World → Type 0 where
+-- A call on a world may have an effect: lent the world's words, its contract allows what has that effect.
+pub data MayHave : World → Call → Effect → Type 0 where
   by-allot : (κs : Lfts 3) (state : State) (heap map list : Loan) (stack : List ℕ) (s p : ℕ) (x : Allotment) → allotContract κs state heap map list s p .allows x
-      → MayLeave (made (heap .now) state (map .now) stack (list .now)) (allot s p) (made (x .heap) (x .answer .state) (x .map) stack (x .list))
+      → MayHave (made (heap .now) state (map .now) stack (list .now)) (allot s p) (ofAllot (made (heap .now) state (map .now) stack (list .now)) x)
   by-read : (κs : Lfts 2) (state : State) (heap map : Loan) (stack list : List ℕ) (a k : ℕ) (x : Reading) → readContract κs state heap map a k .allows x
-      → MayLeave (made (heap .now) state (map .now) stack list) (read a k) (made (heap .now) state (map .now) stack list)
+      → MayHave (made (heap .now) state (map .now) stack list) (read a k) (ofRead (made (heap .now) state (map .now) stack list) x)
   by-write : (κs : Lfts 2) (state : State) (heap map : Loan) (stack list : List ℕ) (a k v : ℕ) (x : Written) → writeContract κs state heap map a k v .allows x
-      → MayLeave (made (heap .now) state (map .now) stack list) (write a k v) (made (x .heap) state (map .now) stack list)
+      → MayHave (made (heap .now) state (map .now) stack list) (write a k v) (ofWrite (made (heap .now) state (map .now) stack list) x)
   by-collect : (κs : Lfts 5) (state : State) (heap roots map stack list : Loan) (x : Left) → collectContract κs state heap roots map stack list .allows x
-      → MayLeave (made (heap .now) state (map .now) (stack .now) (list .now)) (collect (roots .now)) (made (heap .now) (x .answer .state) (x .map) (x .stack) (x .list))
+      → MayHave (made (heap .now) state (map .now) (stack .now) (list .now)) (collect (roots .now)) (ofCollect (made (heap .now) state (map .now) (stack .now) (list .now)) x)
   by-survey : (κs : Lfts 1) (state : State) (list : Loan) (heap map stack : List ℕ) (x : Surveyed) → surveyContract κs state list .allows x
-      → MayLeave (made heap state map stack (list .now)) survey (made heap state map stack (list .now))
+      → MayHave (made heap state map stack (list .now)) survey (ofSurvey (made heap state map stack (list .now)) x)
 
--- A world that the contracts allow after a history: set-up may leave one, and each call may leave the next.
-pub data Allowed : History → World → Type 0 where
-  first : (κs : Lfts 3) (heap : Loan) (t : ℕ) (map list : Loan) (stack : List ℕ) (x : Prepared) → setUpContract κs heap t map list .allows x
-      → Allowed (set-up (heap .now) t (map .now) stack (list .now)) (made (heap .now) (x .answer .state) (x .map) stack (x .list))
-  next : {past : History} {w w′ : World} {c : Call} → Allowed past w → MayLeave w c w′ → Allowed (past then c) w′
+-- A history may leave a world: the contract of set-up allows what makes its first one, and each call may have an effect that leaves the next.
+pub data MayLeave : History → World → Type 0 where
+  at-set-up : (κs : Lfts 3) (heap : Loan) (t : ℕ) (map list : Loan) (stack : List ℕ) (x : Prepared) → setUpContract κs heap t map list .allows x
+      → MayLeave (set-up (heap .now) t (map .now) stack (list .now)) (begun (heap .now) stack x)
+  at-call : {past : History} {w : World} {c : Call} {e : Effect} → MayLeave past w → MayHave w c e → MayLeave (past then c) (e .left)

@@ -6,18 +6,14 @@ use mathlib.Core.Bool.{true}
 use mathlib.Core.List.{List, []}
 use lib.ListN.{length, take}
 use Rattle.words.specs.Header.{refsAt}
-use Rattle.words.specs.Map.{bitAt, isStart}
+use Rattle.words.specs.Map.{bitAt}
 use Rattle.layout.specs.Intervals.{shown}
 use Rattle.layout.specs.Limits.{mapWords, listWords}
 use Rattle.layout.specs.declared.Interval.{Interval}
 use Rattle.runs.specs.Runs.{freeList}
 use Rattle.demands.specs.Reach.{Objects}
 use Rattle.demands.specs.Lent.{Lent}
-use Rattle.demands.specs.World.{World, fieldAt}
-
--- An object starts at a on the world's map.
-abbrev pub On : World → ℕ → Type 0
-On w a = isStart (length (w .heap)) (w .map) a ≡ true
+use Rattle.demands.specs.World.{World, On, fieldAt}
 
 -- The free list of the world.
 abbrev pub freeOf : World → List Interval

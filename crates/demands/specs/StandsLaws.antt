@@ -17,8 +17,8 @@ use Rattle.freelist.specs.RecordsLaws.{ordered-valid}
 use Rattle.split.specs.RelistedLaws.{records-shown, records-front}
 use Rattle.demands.specs.Reach.{Objects}
 use Rattle.demands.specs.Lent.{Lent}
-use Rattle.demands.specs.World.{World}
-use Rattle.demands.specs.Stands.{On, freeOf, Stands}
+use Rattle.demands.specs.World.{World, On}
+use Rattle.demands.specs.Stands.{freeOf, Stands}
 
 -- What is lent stays within the limits while no length changes, nor the heap's words and the keep length in the state.
 pub lent-still : {state state′ : State} {heap heap′ roots map map′ stack stack′ list list′ : List ℕ} → Lent state heap roots map stack list
@@ -48,8 +48,8 @@ module _ {w : World} (g : Stands w) where
   sized = suits-limits (w .state) (w .heap) (g .lent .bounded .suit) .1
 
   -- The keep length is 1 or more.
-  pub keeps : 1 ≤ w .state .keep
-  keeps = suits-limits (w .state) (w .heap) (g .lent .bounded .suit) .0 .keeps
+  pub keep-some : 1 ≤ w .state .keep
+  keep-some = suits-limits (w .state) (w .heap) (g .lent .bounded .suit) .0 .keeps
 
   -- What is on the map is well-formed.
   pub on-formed : {a : ℕ} → On w a → Formed (w .heap) (w .state .keep) a
@@ -72,10 +72,10 @@ module _ {w : World} (g : Stands w) where
 
   -- The part has room for it.
   pub free-fits : 2 * length (freeOf w) ≤ n
-  free-fits = rw sized at (list-fits (w .state .keep) (w .heap) (w .map) keeps)
+  free-fits = rw sized at (list-fits (w .state .keep) (w .heap) (w .map) keep-some)
 
   -- It passes refusal 3.
   pub list-valid : validList (w .state .words) (w .state .keep) (w .state .count) (take n (w .list)) ≡ true
   list-valid =
       ordered-valid (w .state .words) (w .state .keep) (w .state .count) (take n (w .list)) (rw (g .count) free-fits)
-      (rw part-read (rw sized at (list-ordered (w .state .keep) (w .heap) (w .map) keeps)))
+      (rw part-read (rw sized at (list-ordered (w .state .keep) (w .heap) (w .map) keep-some)))

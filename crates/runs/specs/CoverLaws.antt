@@ -1,12 +1,13 @@
 -- The objects on a map as a cover.
 use Prim.Native.Nat.{ℕ, zero, suc, _+_, _-_, _/_, _≤_, _<_}
-use mathlib.Core.Path.{_≡_, refl, ap₂}
+use mathlib.Core.Path.{_≡_, refl, sym, ap, ap₂, _∙_}
 use mathlib.Core.Logic.{_≢_}
 use mathlib.Core.Bool.{Bool, true, false, _&&_, _||_, and-false}
-use mathlib.Core.List.{List}
+use mathlib.Core.List.{List, _++_}
 use native.Mathlib.Omega.{arith}
 use native.Mathlib.Decide.{decLe, ℕ-discrete}
 use lib.ListN.{length, take}
+use lib.Seq.{take-at}
 use lib.Dec.{ltb}
 use borrow.Author.Tests.{ltb-true, le-ltb}
 use Rattle.words.specs.Header.{sizeAt}
@@ -37,6 +38,10 @@ start-take h map a = go (ltb a h) refl
     go : (inside : Bool) → ltb a h ≡ inside → (ltb 0 a && inside) && bitAt (take (mapWords h) map) a ≡ (ltb 0 a && inside) && bitAt map a
     go true e = rw (bit-take (mapWords h) map a (bit-inside h a (ltb-true a h e)))
     go false e = rw (and-false (ltb 0 a))
+
+-- So it is one on the words in front, where these are as many as needed.
+pub start-front : (h : ℕ) (front rest : List ℕ) (a : ℕ) → length front ≡ mapWords h → isStart h (front ++ rest) a ≡ isStart h front a
+start-front h front rest a long = sym (start-take h (front ++ rest) a) ∙ ap (λ (map : List ℕ). isStart h map a) (take-at front rest (mapWords h) long)
 
 -- An object that comes on the map covers its words, and no other.
 pub covered-marks : (heap map : List ℕ) (r : ℕ) → 0 < r → r < length heap → r / 32 < length map → Marks (covered heap map) (covered heap (setBit map r)) r (sizeAt heap r)
