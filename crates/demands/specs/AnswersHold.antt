@@ -22,11 +22,12 @@ use Rattle.demands.specs.Reach.{Reach}
 use Rattle.demands.specs.World.{fieldAt, readsOn, surveysOn, writesOn, On}
 use Rattle.demands.specs.History.{History, world, keepOf, Rooted, Keeps, Held, allottedAs}
 use Rattle.demands.specs.Answers.{ReadAnswers, WriteAnswers}
-use Rattle.demands.specs.Stands.{}
+use Rattle.demands.specs.Stands.{Agrees}
 use Rattle.demands.specs.StandsLaws.{part-read, list-read, list-valid}
 use Rattle.demands.specs.Demand3CollectHolds.{reached-on}
 use Rattle.demands.specs.Demand3WriteHolds.{field-code}
-use Rattle.demands.specs.Demand3Holds.{Agrees, agrees, demand-3}
+use Rattle.demands.specs.AgreesLaws.{agrees}
+use Rattle.demands.specs.Demand3Holds.{demand-3}
 
 module _ (past : History) (keeps : Keeps past) where
   -- What the history says of the world.

@@ -34,6 +34,7 @@ pub mod Demand3SetUpHolds
 pub mod Demand3CollectHolds
 pub mod Demand3WriteHolds
 pub mod Demand3AllotHolds
+pub mod AgreesLaws
 pub mod Demand3Holds
 pub mod LastingHolds
 pub mod ShutOutHold

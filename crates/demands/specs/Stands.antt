@@ -1,11 +1,11 @@
--- What holds of the world after every call, said of the objects on its map.
-use Prim.Native.Nat.{ℕ, _<_}
+-- What holds after every call: of the world, said of the objects on its map, and of these and the history.
+use Prim.Native.Nat.{ℕ, _-_, _<_}
 use mathlib.Core.Path.{_≡_}
-use mathlib.Core.Logic.{_≢_}
+use mathlib.Core.Logic.{_≢_, _↔_}
 use mathlib.Core.Bool.{true}
 use mathlib.Core.List.{List, []}
 use lib.ListN.{length, take}
-use Rattle.words.specs.Header.{refsAt}
+use Rattle.words.specs.Header.{sizeAt, refsAt, headerAt}
 use Rattle.words.specs.Map.{bitAt}
 use Rattle.layout.specs.Intervals.{shown}
 use Rattle.layout.specs.Limits.{mapWords, listWords}
@@ -14,6 +14,7 @@ use Rattle.runs.specs.Runs.{freeList}
 use Rattle.demands.specs.Reach.{Objects}
 use Rattle.demands.specs.Lent.{Lent}
 use Rattle.demands.specs.World.{World, On, fieldAt}
+use Rattle.demands.specs.History.{History, world, wordsOf, keepOf, Held, allottedAs, lastWritten}
 
 -- The free list of the world.
 abbrev pub freeOf : World → List Interval
@@ -32,3 +33,16 @@ pub record Stands (w : World) : Type 0 where
   -- The list is the free list, with zeros behind it.
   pub count : w .state .count ≡ length (freeOf w)
   pub listed : take (listWords (length (w .heap)) (w .state .keep)) (w .list) ≡ shown (listWords (length (w .heap)) (w .state .keep)) (freeOf w)
+
+-- A history and the world that it leaves agree.
+pub record Agrees (past : History) : Type 0 where
+  -- The world stands.
+  pub stands : Stands (world past)
+  -- It has the words and the keep length of set-up.
+  pub long : length (world past .heap) ≡ wordsOf past
+  pub keep : world past .state .keep ≡ keepOf past
+  -- What is on its map is held.
+  pub held : (a : ℕ) → On (world past) a ↔ Held past a
+  -- It has the header allotted, and in each field what was last written.
+  pub header : (a : ℕ) → On (world past) a → headerAt (world past .heap) a ≡ allottedAs past a
+  pub field : (a k : ℕ) → On (world past) a → k < sizeAt (world past .heap) a - 1 → fieldAt (world past) a k ≡ lastWritten past a k
