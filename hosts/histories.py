@@ -5,7 +5,8 @@ A line gives the words of the heap, the keep length, how many words more than ne
 many turns there are, and in how many turns there is one of loss. The same numbers are drawn here as in the program, and the same
 calls made, but what comes of them is worked out from what is held: the objects allotted and not since found unreachable, each with
 the words last written to its fields. Free are the words outside them; the list is a sweep over these, an allot takes the lowest that
-fit, and the map has the starts of what is held. No bit of a map and no record of a list is ever looked at.
+fit, and the map has the starts of what is held. No bit of a map and no record of a list is ever looked at. Beside them stand the
+words of the heap, written by allots and writes alone.
 With --check nothing is written: the two files must be there as they would be written.
 """
 from collections import Counter
@@ -16,7 +17,7 @@ SLOTS, DRAWN = 24, 9
 HUGE = 2**32
 PLACES = [("allot", 0), ("allot", 7), ("allot", 8), ("read", 0), ("read", 9), ("read", 10), ("write", 0), ("write", 9),
           ("write", 10), ("write", 11), ("collect", 0), ("survey", 0), ("new", 0)]
-came, sizes, depths = Counter(), Counter(), Counter()
+came, sizes, depths, lacking = Counter(), Counter(), Counter(), Counter()
 
 
 class Object:
@@ -53,6 +54,8 @@ class Station:
         if not code:
             a = max(0, self.free.find(b"\1" * s))
             code = 0 if a else 8
+        if code == 8:
+            lacking[self.h] = max(lacking[self.h], len(self.runs))
         if a:
             self.held[a] = Object(s, p)
             self.heap[a : a + s] = self.held[a].words()
@@ -115,12 +118,18 @@ class Station:
         self.counted = [n + more for n, more in zip(self.counted, (len(marked), live, read))]
         self.peak = max(self.peak, peak)
         if self.given["collect", 0] % (self.h // 1024 + 1) == 0:
-            self.digest = total(self.sums(), self.digest)
+            self.look()
+
+    def look(self):
+        self.digest = total(self.sums(), self.digest)
 
     def sums(self):
         """Sums over all words lent of heap, map, stack and list."""
+        outside = bytearray(b"\0" + b"\1" * (self.h - 1))
         for a, found in self.held.items():
             assert self.heap[a : a + found.size] == found.words()
+            outside[a : a + found.size] = bytes(found.size)
+        assert self.free == outside
         need = rooms(self.h, self.t)
         fronts = [map_of(self.h, [(a, 0) for a in self.held]), [0] * need[1] if self.is_stack_clear else [], flat(self.runs)]
         fronts[2] += [0] * (need[2] - len(fronts[2]))
@@ -238,6 +247,8 @@ class Turn:
             self.station.survey()
         elif self.is_loss:
             self.slots[self.slot] = 0
+        if self.station.h < 1024 and below(self.draw[7], 5) == 0:
+            self.station.look()
         assert all(a == 0 or a in self.station.held for a in self.slots)
 
 
@@ -261,7 +272,7 @@ ROWS = [(1, [1, 65535], [3], 100), (2, [1, 2], [3], 200), (7, [1, 2, 3], [2, 4],
         (64, [1, 2, 4, 9], [2, 6], 1200), (200, [1, 3, 6, 8], [2, 5, 12], 1500), (1000, [1, 2, 7], [3, 20, 60], 2000),
         (4096, [1, 3, 8], [5, 40, 150], 3000), (4096, [500], [3], 1000), (20000, [2, 5], [10, 100], 4000),
         (20000, [3000], [3], 1000), (65536, [1, 9], [20, 200], 4000), (65536, [16000, 65535], [2], 1000),
-        (65536, [4], [500], 8000)]
+        (65536, [4], [500], 8000), (20000, [12, 16], [2000], 9000)]
 for h, keeps, losses, turns in ROWS:
     for t in keeps:
         for seldom in losses:
@@ -269,4 +280,5 @@ for h, keeps, losses, turns in ROWS:
 assert set(came) == set(PLACES) and min(came.values()) >= sum(sizes.values())
 assert len(sizes) >= 10 and came["collect", 0] >= 3000
 assert max(depths) >= 50  # objects on the mark stack at once
+assert lacking[20000] >= 50  # intervals listed, and none that fits
 settle("histories")

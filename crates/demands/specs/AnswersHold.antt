@@ -1,7 +1,7 @@
 -- What users look for: how read, write and survey answer, what references name, and what a collection keeps.
 use Prim.Native.Nat.{ℕ, _-_, _≤_, _<_}
 use mathlib.Core.Path.{_≡_, refl, sym, ap, _∙_}
-use mathlib.Core.Logic.{_⊎_, inl, inr}
+use mathlib.Core.Logic.{_↔_, _⊎_, inl, inr}
 use mathlib.Core.List.{List}
 use mathlib.Mathlib.Data.Bool.Basic.{eq-false-of-not-eq-true}
 use native.Mathlib.Omega.{arith}
@@ -19,8 +19,8 @@ use Rattle.store.specs.Survey.{surveys}
 use Rattle.store.specs.Fields.{Written, objectCode, fieldCode, takes}
 use Rattle.store.specs.FieldsLaws.{start-takes, takes-start, no-start, no-field, has-field, read-refused, read-given, write-refused, write-untaken, write-stored}
 use Rattle.demands.specs.Reach.{Reach}
-use Rattle.demands.specs.World.{fieldAt, readsOn, surveysOn, writesOn, On}
-use Rattle.demands.specs.History.{History, world, keepOf, Rooted, Keeps, Held, allottedAs}
+use Rattle.demands.specs.World.{collect, fieldAt, readsOn, surveysOn, writesOn, On}
+use Rattle.demands.specs.History.{History, _then_, world, keepOf, Rooted, Keeps, Held, allottedAs}
 use Rattle.demands.specs.Answers.{ReadAnswers, WriteAnswers}
 use Rattle.demands.specs.Stands.{Agrees}
 use Rattle.demands.specs.StandsLaws.{part-read, list-read, list-valid}
@@ -113,6 +113,7 @@ module _ (past : History) (keeps : Keeps past) where
       let n : ℕ = listWords (state .words) (state .keep) in
       rw (suits-within state heap (g .lent .bounded .suit), le-leb n (length (world past .list)) (g .lent .list-room), list-valid g, part-read g, list-read g) refl
 
-  -- Whatever the roots of a collection reach is held, so afterwards just that is.
-  pub reached-held : {roots : List ℕ} → Rooted (world past) roots → {a : ℕ} → Reach heap (keepOf past) roots a → Held past a
-  reached-held rooted {a} reached = told .held a .0 (reached-on (told .stands) rooted (rw (told .keep) reached))
+  -- What is held after a collection is just what its roots reach.
+  pub held-reached : {roots : List ℕ} → Rooted (world past) roots → (a : ℕ) → Held (past then collect roots) a ↔ Reach heap (keepOf past) roots a
+  unfolding Held
+  held-reached rooted a = (λ x. x .1, λ reached. (told .held a .0 (reached-on (told .stands) rooted (rw (told .keep) reached)), reached))

@@ -1,5 +1,5 @@
 -- Demand 3 holds.
-use Prim.Native.Nat.{ℕ, _+_, _-_, _≤_, _<_}
+use Prim.Native.Nat.{ℕ, _+_, _≤_, _<_}
 use mathlib.Core.Path.{_≡_, refl, _∙_}
 use mathlib.Core.Logic.{_↔_, inl, inr}
 use mathlib.Core.Bool.{true}
@@ -15,7 +15,7 @@ use Rattle.runs.specs.Lists.{Member, Longest}
 use Rattle.runs.specs.CoverLaws.{start-take}
 use Rattle.demands.specs.Demand2.{Tells, Lists}
 use Rattle.demands.specs.ListsLaws.{covered-tells, list-lists}
-use Rattle.demands.specs.World.{allot, allotsOn}
+use Rattle.demands.specs.World.{allotsOn}
 use Rattle.demands.specs.History.{History, world, keepOf, Keeps, gives, Held}
 use Rattle.demands.specs.Demand3.{InHeld, FreeRun, AllotAnswers, Demand3}
 use Rattle.demands.specs.Stands.{freeOf, Agrees}

@@ -38,6 +38,7 @@ pub mod AgreesLaws
 pub mod Demand3Holds
 pub mod LastingHolds
 pub mod ShutOutHold
+pub mod KeptHolds
 pub mod AnswersHold
 pub mod SamenessHolds
 pub mod MayLeaveHolds

@@ -29,7 +29,7 @@ only-world (at-call {c = c} left has) = ap (λ (e : Effect). e .left) (only-effe
 pub only-answer : {past : History} {w : World} {c : Call} {e : Effect} → MayLeave past w → MayHave w c e → e .answer ≡ answers (world past) c
 only-answer {c = c} left has = ap (λ (e : Effect). e .answer) (only-effect has) ∙ ap (λ (w : World). answers w c) (only-world left)
 
--- Whatever lifetime, place and name a loan has, the contracts allow these.
+-- Whatever lifetime, place and name the loans have, the same for each, the contracts allow these.
 module _ (κ : Lft) (place : ℕ × ℕ) (name : GName) where
   -- A loan of words.
   lend : List ℕ → Loan

@@ -79,8 +79,8 @@ pub(crate) fn address(draw: [usize; 9], how: usize, slots: &[u32; 24], words: us
     a
 }
 
-// The field that is read or written: in case 2 one past the end, in case 3 a huge one; else any field of the object, or its
-// last one.
+// The field that is read or written: in case 2 one behind the last, in case 3 a huge one; else any field of the object, or its
+// last one. Where there is no header or no field, 0 to 2.
 pub(crate) fn field(draw: [usize; 9], how: usize, is_any: bool, heap: &[u32], a: usize) -> usize {
     let x = draw[4];
     if heap.len() <= a {

@@ -1,6 +1,6 @@
 // The turns of a history. The program has 24 slots, each empty or with the address of an object, and plays the mutator: it allots,
-// reads, writes, collects from what its slots hold, and surveys. What a slot holds is given up only in turns of loss; the fewer these
-// are, the more objects are reached.
+// reads, writes, collects from what its slots hold, and surveys. What a slot holds is dropped only in turns of loss; the fewer these
+// are, the more objects are reached, mostly.
 use crate::book;
 use crate::choice;
 use crate::each;
@@ -191,8 +191,8 @@ fn look(
     }
 }
 
-// One turn. The state afterwards.
-pub(crate) fn turn(
+// A turn. The state afterwards.
+fn act(
     draw: [usize; 9],
     is_loss: bool,
     state: State,
@@ -212,4 +212,24 @@ pub(crate) fn turn(
     }
     look(draw, is_loss, state, slots, book, heap, map, list);
     state
+}
+
+// One turn and, in a heap of fewer than 1,024 words, one time in five sums over all words digested behind it. The state
+// afterwards.
+pub(crate) fn turn(
+    draw: [usize; 9],
+    is_loss: bool,
+    state: State,
+    slots: &mut [u32; 24],
+    book: &mut [usize; 19],
+    heap: &mut [u32],
+    map: &mut [u32],
+    stack: &mut [u32],
+    list: &mut [u32],
+) -> State {
+    let after = act(draw, is_loss, state, slots, book, heap, map, stack, list);
+    if (heap.len() < 1024) & heaps::is_time(draw[7], 5) {
+        book::digest(book, &sums(heap, map, stack, list));
+    }
+    after
 }

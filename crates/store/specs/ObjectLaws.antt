@@ -4,10 +4,10 @@ use mathlib.Core.Path.{_≡_, sym, ap, _∙_}
 use mathlib.Core.Logic.{_⊎_, inl, inr}
 use mathlib.Core.List.{List, [], _∷_, _++_, append-assoc}
 use native.Mathlib.Omega.{arith}
-use lib.ListN.{length, getD, take, drop, set, replicate, length-append, length-drop, length-replicate, length-set, replicate-append-replicate, List·getD-append, getD-replicate}
-use lib.Seq.{length-take-le, take-suc-set, drop-set-lt, drop-drop, drop-append-add, append-snoc, getD-at, take-at, drop-at, getD-take, getD-drop}
-use Rattle.words.specs.Header.{sizeAt, refsAt, headerAt, headerWord, fieldsOf}
-use Rattle.words.specs.HeaderLaws.{word-parts, equal-refs}
+use lib.ListN.{length, getD, take, drop, set, replicate, length-append, length-drop, length-replicate, length-set, List·getD-append, getD-replicate}
+use lib.Seq.{length-take-le, take-suc-set, drop-set-lt, drop-drop, drop-append-add, append-snoc, getD-at, drop-at, getD-take, getD-drop}
+use Rattle.words.specs.Header.{sizeAt, refsAt, headerAt, headerWord}
+use Rattle.words.specs.HeaderLaws.{word-parts}
 use Rattle.store.specs.Allot.{withObject}
 
 module _ (heap : List ℕ) (a s p : ℕ) (some : p < s) (fits : a + s ≤ length heap) where
@@ -56,14 +56,6 @@ module _ (heap : List ℕ) (a s p : ℕ) (some : p < s) (fits : a + s ≤ length
   from-fields =
       let one : length (take a heap) + 1 ≡ suc a = omega (arith, length-take-le a heap (omega arith)) in
       rw (← one, from-header) (drop-append-add (take a heap) (headerWord s p ∷ (replicate (s - 1) 0 ++ drop (a + s) heap)) 1)
-
-  -- Each of its references is 0.
-  pub new-fields : s < 65536 → fieldsOf (withObject heap a s p) a ≡ replicate p 0
-  unfolding fieldsOf
-  new-fields small =
-      let refs : refsAt (withObject heap a s p) a ≡ p = equal-refs (new-header small) in
-      let split : p + (s - 1 - p) ≡ s - 1 = omega arith in
-      rw (refs, from-fields, ← split, ← replicate-append-replicate {A = ℕ} p (s - 1 - p) 0, append-assoc (replicate p 0) (replicate (s - 1 - p) 0) (drop (a + s) heap)) (take-at (replicate p 0) (replicate (s - 1 - p) 0 ++ drop (a + s) heap) p (length-replicate p 0))
 
   -- Every word outside the object is as it was.
   pub new-others : (w : ℕ) → (w < a) ⊎ (a + s ≤ w) → getD (withObject heap a s p) w 0 ≡ getD heap w 0
