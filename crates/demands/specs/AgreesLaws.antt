@@ -67,6 +67,11 @@ write-agrees {past} a k v ih = record {
     was : (b : ℕ) → On (after (world past) (write a k v)) b → On (world past) b
     was b on = rw (write-long (ih .stands) a k v) at on
 
+-- What is held after a collection is on its map.
+held-on : {past : History} {roots : List ℕ} → Rooted (world past) roots → Agrees past → (a : ℕ) → Held (past then collect roots) a → On (after (world past) (collect roots)) a
+unfolding Held
+held-on rooted ih a held = collect-starts (ih .stands) rooted a .1 (rw (ih .keep) (held .1))
+
 -- After a collection.
 collect-agrees : {past : History} {roots : List ℕ} → Rooted (world past) roots → Agrees past → Agrees (past then collect roots)
 unfolding world effect wordsOf keepOf Held allottedAs lastWritten
@@ -76,7 +81,7 @@ collect-agrees {past} {roots} rooted ih = record {
   keep = collect-keep g rooted ∙ ih .keep;
   held = λ a. (
     λ on. let p = collect-starts g rooted a .0 on in (ih .held a .0 (reached-on g rooted p), rw (ih .keep) at p),
-    λ e. collect-starts g rooted a .1 (rw (ih .keep) (e .1)),
+    held-on rooted ih a,
   );
   header = λ a on. ih .header a (was a on);
   field = λ a k on. ih .field a k (was a on);
