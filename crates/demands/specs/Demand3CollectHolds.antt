@@ -37,6 +37,7 @@ module _ {w : World} (g : Stands w) {roots : List ℕ} (rooted : Rooted w roots)
       let x = g .lent in
       record { bounded = record { suit = x .bounded .suit; few = rooted .few }; map-room = x .map-room; stack-room = x .stack-room; list-room = x .list-room }
 
+  -- So demand 2 holds of it, and demand 1 as ever.
   meets : Demand2 (w .heap) (w .state .keep) roots (collectsOn w roots)
   meets = demand-2 (w .state) (w .heap) roots (w .map) (w .stack) (w .list) within-limits
 

@@ -45,7 +45,7 @@ module _ {heap : List ℕ} {t : ℕ} {map stack list : List ℕ} (lent : Lent (r
       let allowed = suits-within (record { words = h; keep = t; count = 0 }) heap (lent .bounded .suit) in
       rw (allowed, le-leb m (length map) (lent .map-room), le-leb n (length list) (lent .list-room))
 
-  -- Its starts are those of zeros, so nothing is on it.
+  -- The map's starts are those of zeros, so nothing is on it.
   start-clear : (a : ℕ) → isStart h clear a ≡ isStart h (replicate m 0) a
   start-clear a = start-front h (replicate m 0) (drop m map) a (length-replicate m 0)
 
