@@ -32,7 +32,7 @@ abbrev codeOf : Allotment → ℕ
 codeOf r = r .answer .code
 
 -- What a refused allot leaves: state, heap, map and list as they came.
-abbrev refuse : State → List ℕ → List ℕ → List ℕ → ℕ → Allotment
+abbrev pub refuse : State → List ℕ → List ℕ → List ℕ → ℕ → Allotment
 refuse state heap map list n = allotment (allotRefused n state) heap map list
 
 -- In the needed parts of map and list.

@@ -20,9 +20,10 @@ use Rattle.freelist.specs.SearchLaws.{fitting-none}
 use Rattle.freelist.specs.declared.search.Found.{Found}
 use Rattle.freelist.specs.declared.search.Found.the-variants.{At, Nothing}
 use Rattle.split.specs.RelistedLaws.{relisted-shown}
-use Rattle.store.specs.Allot.{Allotment, allotment, allotRefused, askable, askedCode, placed, allotsIn, Parts}
+use Rattle.store.specs.Allot.{Allotment, askable, askedCode, placed, allotsIn, Parts}
 use Rattle.store.specs.AllotLaws.{joined, allot-within, asked-numbers, asked-none, allot-refused, allot-full, Chosen, chosen}
 use Rattle.store.specs.Fields.{wordOf}
+use Rattle.demands.specs.Demand1AllotHolds.{refuse}
 use Rattle.demands.specs.World.{World, allot, fieldAt, allotsOn, ofAllot, after, On, effect}
 use Rattle.demands.specs.History.{givesBy, gives}
 use Rattle.demands.specs.Demand3.{AllotAnswers}
@@ -43,10 +44,6 @@ module _ {w : World} (g : Stands w) where
   parts = record { suit = g .lent .bounded .suit; map-size = length-take-le m (w .map) (g .lent .map-room); list-size = length-take-le n (w .list) (g .lent .list-room) }
 
   module _ (s p : ℕ) where
-    -- What a refusal leaves.
-    abbrev refuse : ℕ → Allotment
-    refuse code = allotment (allotRefused code (w .state)) (w .heap) (w .map) (w .list)
-
     -- The allot in the needed parts.
     abbrev inner : Allotment
     inner = allotsIn (w .state) (w .heap) (take m (w .map)) (take n (w .list)) s p
@@ -84,10 +81,10 @@ module _ {w : World} (g : Stands w) where
     Short = (i : Interval) → Member (freeOf w) i → i .size < s
 
     -- What holds of refusals 7 and 8, each for its reason, and of the new object in its place, holds of every allot.
-    allot-cases : (P : Allotment → Type 0) → (askable (w .state .keep) s p ≡ false → P (refuse 7)) → (askable (w .state .keep) s p ≡ true → Short → P (refuse 8)) → (askable (w .state .keep) s p ≡ true → (j : ℕ) (x : Picked w s p j) → P (given j x)) → P (allotsOn w s p)
+    allot-cases : (P : Allotment → Type 0) → (askable (w .state .keep) s p ≡ false → P (refuse (w .state) (w .heap) (w .map) (w .list) 7)) → (askable (w .state .keep) s p ≡ true → Short → P (refuse (w .state) (w .heap) (w .map) (w .list) 8)) → (askable (w .state .keep) s p ≡ true → (j : ℕ) (x : Picked w s p j) → P (given j x)) → P (allotsOn w s p)
     allot-cases P seven eight new = rw in-parts (go (askable (w .state .keep) s p) refl)
       where
-        refused : (code : ℕ) → allotment (allotRefused code (w .state)) (w .heap) (take m (w .map)) (take n (w .list)) ≡ inner → P (refuse code) → P (joined (w .state) (w .map) (w .list) inner)
+        refused : (code : ℕ) → refuse (w .state) (w .heap) (take m (w .map)) (take n (w .list)) code ≡ inner → P (refuse (w .state) (w .heap) (w .map) (w .list) code) → P (joined (w .state) (w .map) (w .list) inner)
         refused code e q = rw (← e, take-append-drop m (w .map), take-append-drop n (w .list)) q
 
         found : asked-code ≡ 0 → askable (w .state .keep) s p ≡ true → (f : Found) → f ≡ fitting s (records (w .state .count) (take n (w .list))) → P (joined (w .state) (w .map) (w .list) inner)
@@ -120,7 +117,7 @@ pub record AllotLeaves (w : World) (s p : ℕ) (x : Allotment) : Type 0 where
 
 module _ {w : World} (g : Stands w) (s p : ℕ) where
   -- A refusal leaves the world as it was.
-  refused-leaves : (code : ℕ) → code ≢ 0 → AllotLeaves w s p (refuse g s p code)
+  refused-leaves : (code : ℕ) → code ≢ 0 → AllotLeaves w s p (refuse (w .state) (w .heap) (w .map) (w .list) code)
   refused-leaves code some = record {
     stands = g;
     words = refl;
