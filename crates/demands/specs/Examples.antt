@@ -36,8 +36,8 @@ abbrev pub junk : ℕ → List ℕ
 junk n = replicate n 9
 
 -- The set-up of an image, with buffers of just the needed lengths.
-unfoldable pub fresh : Image → History
-fresh i =
+unfoldable pub setUpOf : Image → History
+setUpOf i =
     let h : ℕ = i .words in
     let t : ℕ = i .keep in
     set-up (laid h (i .given)) t (junk (mapWords h)) (junk (stackWords h t)) (junk (listWords h t))
@@ -45,7 +45,7 @@ fresh i =
 -- What is seen of an example's last call.
 unfoldable pub seen : Example → Seen
 seen e =
-    let w : World = world (onward (fresh (e .image)) (e .before)) in
+    let w : World = world (onward (setUpOf (e .image)) (e .before)) in
     let next : World = after w (e .last) in
     let used : ℕ = 2 * next .state .count in
     record { answer = answers w (e .last); map = next .map; list = take used (next .list); rest = drop used (next .list) ++ next .stack }

@@ -19,12 +19,12 @@ use Rattle.store.specs.Fields.{objectCode, fieldCode, reads, takes, writes}
 use Rattle.store.specs.Survey.{surveys}
 use Rattle.demands.specs.World.{newWorld, effect}
 use Rattle.demands.specs.History.{world, onward}
-use Rattle.demands.specs.Examples.{Example, laid, fresh, seen, table}
+use Rattle.demands.specs.Examples.{Example, laid, setUpOf, seen, table}
 
 -- Every example in the table gives what is expected.
 pub examples-hold : map seen table ≡ map Example.expected table
 unfolding
-    table seen fresh laid
+    table seen setUpOf laid
     newWorld effect world onward
     setsUp firstList within suits mapWords stackWords listRoom listWords flat shown
     collects collectsIn collection begin run move meet marked overlaps

@@ -19,21 +19,21 @@ use Rattle.store.specs.Fields.{objectCode, fieldCode, takes, writes}
 use Rattle.demands.specs.Reach.{by-root}
 use Rattle.demands.specs.World.{allot, write, collect, On, newWorld, effect}
 use Rattle.demands.specs.History.{History, _then_, world, Premise, Keeps, gives, Held}
-use Rattle.demands.specs.Examples.{laid, fresh, littered}
+use Rattle.demands.specs.Examples.{laid, setUpOf, littered}
 
 -- An allot, a write and a collection after set-up.
 abbrev short : History
-short = fresh littered then allot 3 1 then write 1 1 7 then collect (1 ∷ [])
+short = setUpOf littered then allot 3 1 then write 1 1 7 then collect (1 ∷ [])
 
 -- It keeps the premises, and the object at 1 is held.
 pub short-keeps : Keeps short × Held short 1
 unfolding
-    Keeps Premise Held gives world newWorld effect fresh laid
+    Keeps Premise Held gives world newWorld effect setUpOf laid
     setsUp firstList within suits mapWords stackWords listRoom listWords flat shown
     sizeAt refsAt headerWord wellFormed bitAt setBit isStart
     allots allotsIn placed withObject askedCode records inOrder validList firstFrom fitting cut kept relisted
     objectCode fieldCode takes writes
 short-keeps = (
-  (((record { bounded = record { suit = refl; few = omega arith }; map-room = omega arith; stack-room = omega arith; list-room = omega arith }, tt), tt), record { few = omega arith; named = λ r i. inr (subst (On (world (fresh littered then allot 3 1 then write 1 1 7))) (sym (List·Memᴰ·eq-of-singleton i)) refl) }),
+  (((record { bounded = record { suit = refl; few = omega arith }; map-room = omega arith; stack-room = omega arith; list-room = omega arith }, tt), tt), record { few = omega arith; named = λ r i. inr (subst (On (world (setUpOf littered then allot 3 1 then write 1 1 7))) (sym (List·Memᴰ·eq-of-singleton i)) refl) }),
   (inr refl, by-root (List·Memᴰ·head refl) (λ e. omega arith)),
 )

@@ -1,4 +1,4 @@
--- Wrong builds that demand 3 shuts out, by its fields alone.
+-- Wrong builds that demand 3 shuts out, by its fields and by what is held alone.
 use Prim.Native.Nat.{ℕ, _≤_}
 use mathlib.Core.Path.{_≡_}
 use mathlib.Core.Logic.{_≢_}
