@@ -2,8 +2,8 @@
 use Prim.Native.Nat.{_-_}
 use lib.ListN.{length}
 use borrow.Author.Needs.{needs}
-use Rattle.trials.proofs.rows.all.Statement.{statement}
-use Rattle.trials.proofs.rows.all.Tie as tie
+use Rattle.edges.proofs.rows.all.Statement.{statement}
+use Rattle.edges.proofs.rows.all.Tie as tie
 
 abbrev Inv-loop : tie.InvT-loop
 Inv-loop text at₀ at = Unit {0}

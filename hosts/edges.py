@@ -1,5 +1,5 @@
 #!/usr/bin/env python3
-"""Writes the lines of the trials and the answers expected of them: crates/trials/stdin and stdout.
+"""Writes the lines of the program edges and the answers expected of them: crates/edges/stdin and stdout.
 
 The answers are worked out here from the rules alone, and not the way the proved code works. The free list after words
 were taken off is found by a sweep over a bitmap of the whole heap; the record that holds words, by looking at every one.
@@ -176,4 +176,4 @@ list_lines()
 cut_lines()
 random_lines(random.Random(2006))
 comb_lines()
-settle("trials")
+settle("edges")

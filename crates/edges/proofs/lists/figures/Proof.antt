@@ -4,8 +4,8 @@ use borrow.Author.Needs.{needs}
 use Rattle.freelist.specs.RecordsLaws.{valid-ordered}
 use Rattle.layout.specs.LimitsLaws.{limits}
 use Rattle.runs.specs.SumLaws.{ordered-listed}
-use Rattle.trials.proofs.lists.figures.Statement.{statement}
-use Rattle.trials.proofs.lists.figures.Tie as tie
+use Rattle.edges.proofs.lists.figures.Statement.{statement}
+use Rattle.edges.proofs.lists.figures.Tie as tie
 
 of-requires : tie.Need-of-requires
 of-requires c κs =

@@ -2,8 +2,8 @@
 use mathlib.Core.Path.{sym, _∙_}
 use borrow.Author.Tests.{not-false}
 use borrow.Author.Needs.{needs}
-use Rattle.trials.proofs.lists.in_part.Statement.{statement}
-use Rattle.trials.proofs.lists.in_part.Tie as tie
+use Rattle.edges.proofs.lists.in_part.Statement.{statement}
+use Rattle.edges.proofs.lists.in_part.Tie as tie
 
 laid-requires : tie.Need-laid-requires
 laid-requires c κs = search needs

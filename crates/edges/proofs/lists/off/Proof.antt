@@ -6,8 +6,8 @@ use Rattle.freelist.specs.RecordsLaws.{valid-ordered}
 use Rattle.freelist.specs.SearchLaws.{ordered-sorted, holder-in}
 use Rattle.layout.specs.LimitsLaws.{limits}
 use Rattle.runs.specs.OrderLaws.{cut-fits}
-use Rattle.trials.proofs.lists.off.Statement.{statement}
-use Rattle.trials.proofs.lists.off.Tie as tie
+use Rattle.edges.proofs.lists.off.Statement.{statement}
+use Rattle.edges.proofs.lists.off.Tie as tie
 
 returns : tie.Need-returns
 returns c = search needs

@@ -6,8 +6,8 @@ use Rattle.freelist.specs.RecordsLaws.{valid-ordered}
 use Rattle.freelist.specs.SearchLaws.{fitting-in}
 use Rattle.layout.specs.LimitsLaws.{limits}
 use Rattle.runs.specs.OrderLaws.{ordered-last}
-use Rattle.trials.proofs.lists.front.Statement.{statement}
-use Rattle.trials.proofs.lists.front.Tie as tie
+use Rattle.edges.proofs.lists.front.Statement.{statement}
+use Rattle.edges.proofs.lists.front.Tie as tie
 
 fitting-requires : tie.Need-fitting-requires
 fitting-requires c κs = omega (arith, valid-ordered _ _ _ _ (c .before .before .pre .2) .0)

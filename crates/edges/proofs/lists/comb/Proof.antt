@@ -4,8 +4,8 @@ use mathlib.Core.Path.{_≡_}
 use native.Mathlib.Omega.{arith}
 use lib.ListN.{length, length-set}
 use borrow.Author.Needs.{needs}
-use Rattle.trials.proofs.lists.comb.Statement.{statement}
-use Rattle.trials.proofs.lists.comb.Tie as tie
+use Rattle.edges.proofs.lists.comb.Statement.{statement}
+use Rattle.edges.proofs.lists.comb.Tie as tie
 
 abbrev Inv-loop : tie.InvT-loop
 Inv-loop words list₀ i₀ list i = length list ≡ length list₀

@@ -2,8 +2,8 @@
 use mathlib.Core.Path.{sym}
 use lib.Seq.{length-take-le}
 use borrow.Author.Needs.{needs}
-use Rattle.trials.proofs.rows.set_up_in.Statement.{statement}
-use Rattle.trials.proofs.rows.set_up_in.Tie as tie
+use Rattle.edges.proofs.rows.set_up_in.Statement.{statement}
+use Rattle.edges.proofs.rows.set_up_in.Tie as tie
 
 array-read-h : tie.Need-array-read-h
 array-read-h c = search needs

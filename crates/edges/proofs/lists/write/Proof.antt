@@ -3,8 +3,8 @@ use Prim.Native.Nat.{_-_, _≤_}
 use mathlib.Core.Path.{_≡_}
 use lib.ListN.{length}
 use borrow.Author.Needs.{needs}
-use Rattle.trials.proofs.lists.write.Statement.{statement}
-use Rattle.trials.proofs.lists.write.Tie as tie
+use Rattle.edges.proofs.lists.write.Statement.{statement}
+use Rattle.edges.proofs.lists.write.Tie as tie
 
 abbrev Inv-loop : tie.InvT-loop
 Inv-loop place list₀ i₀ i-end list i = (i ≤ i-end) × (length list ≡ length list₀)

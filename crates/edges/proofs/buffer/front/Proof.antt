@@ -1,8 +1,8 @@
 -- `buffer::front` is safe and ends.
 use Prim.Native.Nat.{_-_, _≤_}
 use borrow.Author.Needs.{needs}
-use Rattle.trials.proofs.buffer.front.Statement.{statement}
-use Rattle.trials.proofs.buffer.front.Tie as tie
+use Rattle.edges.proofs.buffer.front.Statement.{statement}
+use Rattle.edges.proofs.buffer.front.Tie as tie
 
 abbrev Inv-loop : tie.InvT-loop
 Inv-loop words first second i₀ i-end i = i ≤ i-end

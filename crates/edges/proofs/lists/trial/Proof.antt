@@ -3,8 +3,8 @@ use mathlib.Core.Path.{sym, _∙_}
 use lib.Seq.{length-take-le}
 use borrow.Author.Needs.{needs}
 use Rattle.layout.specs.LimitsLaws.{allowed, list-needs}
-use Rattle.trials.proofs.lists.trial.Statement.{statement}
-use Rattle.trials.proofs.lists.trial.Tie as tie
+use Rattle.edges.proofs.lists.trial.Statement.{statement}
+use Rattle.edges.proofs.lists.trial.Tie as tie
 
 array-read-words : tie.Need-array-read-words
 array-read-words c = search needs

@@ -1,8 +1,8 @@
 -- `buffer::is_junk` is safe and ends.
 use Prim.Native.Nat.{_-_}
 use borrow.Author.Needs.{needs}
-use Rattle.trials.proofs.buffer.is_junk.Statement.{statement}
-use Rattle.trials.proofs.buffer.is_junk.Tie as tie
+use Rattle.edges.proofs.buffer.is_junk.Statement.{statement}
+use Rattle.edges.proofs.buffer.is_junk.Tie as tie
 
 abbrev Inv-loop : tie.InvT-loop
 Inv-loop words at i₀ i-end i = Unit {0}
