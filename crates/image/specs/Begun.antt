@@ -1,0 +1,42 @@
+-- How the numbers of the code and the words that it is lent stand for an image.
+use Prim.Native.Nat.{ℕ, _≤_, _<_}
+use mathlib.Core.Path.{_≡_}
+use mathlib.Core.List.{List}
+use lib.ListN.{length, take}
+use Rattle.image.specs.Image.{maxText, maxHeap, maxImageRoots, Image, Onward, on, off, Text, right, wrong}
+use Rattle.image.specs.declared.reading.Begun.{Begun}
+use Rattle.image.specs.declared.reading.Next.{Next}
+use Rattle.image.specs.declared.reading.Next.the-variants.{On, Off}
+use Rattle.image.specs.declared.reading.Found.{Found}
+use Rattle.image.specs.declared.reading.Found.the-variants.{Right, WrongLine}
+
+-- The image: roots and heap are the fronts of the lent words.
+abbrev pub shows : Begun → List ℕ → List ℕ → Image
+shows b roots heap = record { lines = b .lines; last = b .last; keep = b .keep; roots = take (b .roots) roots; heap = take (b .words) heap }
+
+-- What one line more made.
+abbrev pub showsNext : Next → List ℕ → List ℕ → Onward
+showsNext (On b) roots heap = on (shows b roots heap)
+showsNext Off roots heap = off
+
+-- What a text is.
+abbrev pub showsFound : Found → List ℕ → List ℕ → Text
+showsFound (Right b) roots heap = right (shows b roots heap)
+showsFound (WrongLine n) roots heap = wrong n
+
+-- There are no more roots and words than an image may have.
+pub record Small (b : Begun) : Type 0 where
+  pub roots-in : b .roots ≤ maxImageRoots
+  pub words-in : b .words ≤ maxHeap
+
+-- The same of what one line more made.
+abbrev pub SmallNext : Next → Type 0
+SmallNext (On b) = Small b
+SmallNext Off = Unit {0}
+
+-- There is room for any image, and a line may follow.
+pub record Fits (b : Begun) (roots heap : List ℕ) : Type 0 where
+  pub few : b .lines < maxText
+  pub root-room : maxImageRoots ≤ length roots
+  pub word-room : maxHeap ≤ length heap
+  pub small : Small b

@@ -1,0 +1,10 @@
+pub mod Ascii
+pub mod Lines
+pub mod LinesLaws
+pub mod Decimal
+pub mod DecimalLaws
+pub mod Image
+pub mod ImageLaws
+pub mod Begun
+pub mod BegunLaws
+pub mod ReadingLaws

@@ -1,0 +1,165 @@
+-- Laws of reading a text line by line.
+use Prim.Native.Nat.{ℕ, suc, _+_, _≤_, _<_}
+use mathlib.Core.Path.{_≡_, refl, sym, _∙_, ap, subst}
+use mathlib.Core.Logic.{_≢_}
+use mathlib.Core.Bool.{Bool, true, false, cond, _&&_, and-eq-true-iff}
+use mathlib.Core.List.{List, []}
+use native.Mathlib.Nat.{le-refl, le-add-left}
+use native.Mathlib.Numerals.{add-one}
+use native.Mathlib.Omega.{arith}
+use lib.ListN.{length, drop, length-drop, drop-of-length-le}
+use lib.Seq.{drop-drop}
+use lib.Dec.{leb, eqb}
+use borrow.Author.Tests.{eqb-true, le-leb, lt-leb}
+use Rattle.bytes.specs.Bytes.{indexOf}
+use Rattle.layout.specs.Limits.{maxKeep}
+use Rattle.layout.specs.RefusalLaws.{by-test}
+use Rattle.image.specs.Ascii.{ascii}
+use Rattle.image.specs.Decimal.{decimalOf, pairOf}
+use Rattle.image.specs.Lines.{firstLine, linesOf}
+use Rattle.image.specs.LinesLaws.{line-length, line-inside, line-alone, lines-next}
+use Rattle.image.specs.Image.{maxText, maxHeap, maxImageRoots, Image, Onward, on, off, onIf, takesWords, takesKeep, takesRoot, takesWord, starts, onward, right, wrong, orWrong, readOn, textOf}
+use Rattle.image.specs.Begun.{shows, showsNext, Small, SmallNext, Fits}
+use Rattle.image.specs.declared.decimals.Number.{Number}
+use Rattle.image.specs.declared.decimals.Number.the-variants.{Is, Wrong}
+use Rattle.image.specs.declared.decimals.Pair.{Pair}
+use Rattle.image.specs.declared.decimals.Pair.the-variants.{Are, Unlike}
+use Rattle.image.specs.declared.reading.Begun.{Begun}
+use Rattle.image.specs.declared.reading.Next.{Next}
+use Rattle.image.specs.declared.reading.Next.the-variants.{On, Off}
+
+-- What holds of each kind of line holds of any line.
+onward-any : (Q : Onward → Type 0) (image : Image) (line : List ℕ) → ((n : Number) → Q (takesWords image n)) → ((n : Number) → Q (takesKeep image n)) → ((n : Number) → Q (takesRoot image n))
+    → ((p : Pair) → Q (takesWord image p)) → Q off → Q (onward image line)
+unfolding onward
+onward-any Q image line words keep root word other =
+    by-test Q (starts (ascii "words=") line) (λ e. words (decimalOf (drop 6 line))) (λ e.
+    by-test Q (starts (ascii "keep=") line) (λ e. keep (decimalOf (drop 5 line))) (λ e.
+    by-test Q (starts (ascii "root=") line) (λ e. root (decimalOf (drop 5 line))) (λ e.
+    by-test Q (starts (ascii "word=") line) (λ e. word (pairOf (drop 5 line))) (λ e. other))))
+
+-- No bytes are no right line.
+none-off : (image : Image) → onward image [] ≡ off
+unfolding onward starts ascii
+none-off image = refl
+
+-- A line was right.
+abbrev IsOn : Onward → Type 0
+IsOn (on next) = Unit {0}
+IsOn off = ⊥
+
+-- An image after one line more has at most one line more.
+abbrev OneMore : Image → Onward → Type 0
+OneMore image (on next) = next .lines ≤ image .lines + 1
+OneMore image off = Unit {0}
+
+-- It is so where it is so of the image that a test lets through.
+one-tested : (image : Image) (test : Bool) (next : Image) → (test ≡ true → next .lines ≤ image .lines + 1) → OneMore image (onIf test next)
+unfolding onIf
+one-tested image true next le = le refl
+one-tested image false next le = tt
+
+-- So it is of any line.
+one-more : (image : Image) (line : List ℕ) → OneMore image (onward image line)
+one-more image line = onward-any (OneMore image) image line words keep root word tt
+  where
+    words : (number : Number) → OneMore image (takesWords image number)
+    words (Is n) = one-tested image _ _ (λ e. le-add-left 1 (image .lines))
+    words Wrong = tt
+
+    keep : (number : Number) → OneMore image (takesKeep image number)
+    keep (Is n) = one-tested image (eqb (image .lines) 1 && leb 1 n && leb n maxKeep) _ (λ e. omega (arith, eqb-true (image .lines) 1 (and-eq-true-iff _ (leb 1 n) .0 (and-eq-true-iff (eqb (image .lines) 1 && leb 1 n) _ .0 e .0) .0)))
+    keep Wrong = tt
+
+    root : (number : Number) → OneMore image (takesRoot image number)
+    root (Is n) = one-tested image _ _ (λ e. le-refl (image .lines + 1))
+    root Wrong = tt
+
+    word : (pair : Pair) → OneMore image (takesWord image pair)
+    word (Are a v) = one-tested image _ _ (λ e. le-refl (image .lines + 1))
+    word Unlike = tt
+
+-- What is known between two lines: the lines that are left decide what the text is.
+pub record Reading (text roots heap : List ℕ) (b : Begun) (at : ℕ) : Type 0 where
+  pub inside : at ≤ length text
+  pub short : length text ≤ maxText
+  pub lines-in : b .lines ≤ at
+  pub root-room : maxImageRoots ≤ length roots
+  pub word-room : maxHeap ≤ length heap
+  pub small : Small b
+  pub rest : readOn (shows b roots heap) (linesOf (drop at text)) ≡ textOf text
+
+-- A longer text is wrong.
+pub text-long : (text : List ℕ) → maxText < length text → wrong 0 ≡ textOf text
+unfolding textOf
+text-long text long = rw (lt-leb (length text) maxText long)
+
+-- Any other begins.
+pub text-begins : (text roots heap : List ℕ) → length text ≤ maxText → maxImageRoots ≤ length roots → maxHeap ≤ length heap
+    → Reading text roots heap (record { lines = 0; last = 0; keep = 0; roots = 0; words = 0 }) 0
+unfolding textOf
+text-begins text roots heap short r h =
+    record { inside = omega arith; short = short; lines-in = omega arith; root-room = r; word-room = h; small = record { roots-in = omega arith; words-in = omega arith }; rest = rw (le-leb (length text) maxText short) }
+
+module _ {text roots heap : List ℕ} {b : Begun} {at : ℕ} (g : Reading text roots heap b at) where
+  -- At the end two lines at least were read, or one is missing.
+  pub text-missing : length text ≤ at → b .lines < 2 → wrong (b .lines + 1) ≡ textOf text
+  unfolding readOn linesOf
+  text-missing le few = sym (rw (drop-of-length-le text le, lt-leb 2 (b .lines) few)) ∙ g .rest
+
+  pub text-ends : length text ≤ at → 2 ≤ b .lines → right (shows b roots heap) ≡ textOf text
+  unfolding readOn linesOf
+  text-ends le enough = sym (rw (drop-of-length-le text le, le-leb 2 (b .lines) enough)) ∙ g .rest
+
+  -- Before the end there is a line.
+  module _ (more : at < length text) where
+    pub line-fits : Fits b roots heap
+    line-fits = record { few = omega (arith, g .lines-in, g .short); root-room = g .root-room; word-room = g .word-room; small = g .small }
+
+    abbrev left : List ℕ
+    left = drop at text
+
+    some-left : 0 < length left
+    some-left = omega (arith, length-drop at text)
+
+    -- What is left to read, that line first.
+    line-first : readOn (shows b roots heap) (linesOf left) ≡ orWrong (b .lines + 1) (λ next. readOn next (linesOf (drop (suc (indexOf 10 left)) left))) (onward (shows b roots heap) (firstLine left))
+    unfolding readOn
+    line-first = rw (lines-next left some-left, line-alone left)
+
+    module _ {line : List ℕ} (here : line ≡ firstLine left) where
+      -- A line that is wrong where it stands makes the text wrong.
+      pub line-stops : {came : Next} → came ≡ Off → (roots′ heap′ : List ℕ) → showsNext came roots′ heap′ ≡ onward (shows b roots heap) line → wrong (b .lines + 1) ≡ textOf text
+      line-stops told roots′ heap′ e =
+          let is-off : onward (shows b roots heap) (firstLine left) ≡ off = ap (onward (shows b roots heap)) (sym here) ∙ sym e ∙ ap (λ (n : Next). showsNext n roots′ heap′) told in
+          sym (line-first ∙ ap (orWrong (b .lines + 1) _) is-off) ∙ g .rest
+
+      -- Any other is ended by an LF.
+      module _ {came : Next} {next : Begun} (told : came ≡ On next) (roots′ heap′ : List ℕ) (e : showsNext came roots′ heap′ ≡ onward (shows b roots heap) line) where
+        goes : onward (shows b roots heap) (firstLine left) ≡ on (shows next roots′ heap′)
+        goes = ap (onward (shows b roots heap)) (sym here) ∙ sym e ∙ ap (λ (n : Next). showsNext n roots′ heap′) told
+
+        some : firstLine left ≢ []
+        some none = subst IsOn (sym goes ∙ ap (onward (shows b roots heap)) none ∙ none-off (shows b roots heap)) tt
+
+        behind : suc (indexOf 10 left) ≡ length line + 1
+        behind = omega (arith, ap length here, line-length left some)
+
+        -- The next line begins behind it, in the text.
+        pub next-inside : at + (length line + 1) ≤ length text
+        next-inside = omega (arith, behind, line-inside left some, length-drop at text)
+
+        -- And so it goes on.
+        pub line-goes : maxImageRoots ≤ length roots′ → maxHeap ≤ length heap′ → SmallNext came → Reading text roots′ heap′ next (at + (length line + 1))
+        line-goes r h small =
+            let count : next .lines ≤ b .lines + 1 = subst (OneMore (shows b roots heap)) goes (one-more (shows b roots heap) (firstLine left)) in
+            let left-then : drop (suc (indexOf 10 left)) left ≡ drop (at + (length line + 1)) text = rw behind (drop-drop (length line + 1) at text) in
+            record {
+              inside = next-inside;
+              short = g .short;
+              lines-in = omega (arith, count, g .lines-in);
+              root-room = r;
+              word-room = h;
+              small = subst SmallNext told small;
+              rest = ap (λ (l : List ℕ). readOn (shows next roots′ heap′) (linesOf l)) (sym left-then) ∙ sym (line-first ∙ ap (orWrong (b .lines + 1) _) goes) ∙ g .rest;
+            }

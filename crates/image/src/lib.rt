@@ -1,0 +1,9 @@
+// The text form of an image: lines, decimals, pairs, and the heap and the roots that a text stands for.
+mod decimals;
+mod lines;
+mod reader;
+mod reading;
+
+pub use reading::Begun;
+pub use reading::Found;
+pub use reading::read;
