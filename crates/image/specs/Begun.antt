@@ -3,7 +3,7 @@ use Prim.Native.Nat.{ℕ, _≤_, _<_}
 use mathlib.Core.Path.{_≡_}
 use mathlib.Core.List.{List}
 use lib.ListN.{length, take}
-use Rattle.image.specs.Image.{maxText, maxHeap, maxImageRoots, Image, Onward, on, off, Text, right, wrong}
+use Rattle.image.specs.Image.{maxText, maxHeap, maxImageRoots, Image, Taken, on, off, Text, right, wrong}
 use Rattle.image.specs.declared.reading.Begun.{Begun}
 use Rattle.image.specs.declared.reading.Next.{Next}
 use Rattle.image.specs.declared.reading.Next.the-variants.{On, Off}
@@ -15,7 +15,7 @@ abbrev pub shows : Begun → List ℕ → List ℕ → Image
 shows b roots heap = record { lines = b .lines; last = b .last; keep = b .keep; roots = take (b .roots) roots; heap = take (b .words) heap }
 
 -- What one line more made.
-abbrev pub showsNext : Next → List ℕ → List ℕ → Onward
+abbrev pub showsNext : Next → List ℕ → List ℕ → Taken
 showsNext (On b) roots heap = on (shows b roots heap)
 showsNext Off roots heap = off
 
@@ -35,7 +35,7 @@ SmallNext (On b) = Small b
 SmallNext Off = Unit {0}
 
 -- There is room for any image, and a line may follow.
-pub record Fits (b : Begun) (roots heap : List ℕ) : Type 0 where
+pub record LineFits (b : Begun) (roots heap : List ℕ) : Type 0 where
   pub few : b .lines < maxText
   pub root-room : maxImageRoots ≤ length roots
   pub word-room : maxHeap ≤ length heap

@@ -39,38 +39,38 @@ abbrev pub blank : Image
 blank = record { lines = 0; last = 0; keep = 0; roots = []; heap = [] }
 
 -- What one line more makes: an image, or a line that is wrong where it stands.
-pub data Onward : Type 0 where
-  on : Image → Onward
-  off : Onward
+pub data Taken : Type 0 where
+  on : Image → Taken
+  off : Taken
 
 -- The image where the test holds; else the line is wrong.
-unfoldable pub onIf : Bool → Image → Onward
+unfoldable pub onIf : Bool → Image → Taken
 onIf true image = on image
 onIf false image = off
 
 -- `words` is the first line: the heap has so many words, all 0.
-abbrev pub takesWords : Image → Number → Onward
+abbrev pub takesWords : Image → Number → Taken
 takesWords image (Is n) =
     onIf (eqb (image .lines) 0 && leb 1 n && leb n maxHeap)
     (record { lines = 1; last = image .last; keep = image .keep; roots = image .roots; heap = replicate n 0 })
 takesWords image Wrong = off
 
 -- `keep` is the second line.
-abbrev pub takesKeep : Image → Number → Onward
+abbrev pub takesKeep : Image → Number → Taken
 takesKeep image (Is n) =
     onIf (eqb (image .lines) 1 && leb 1 n && leb n maxKeep)
     (record { lines = 2; last = image .last; keep = n; roots = image .roots; heap = image .heap })
 takesKeep image Wrong = off
 
 -- A `root` line stands behind these and before any `word` line, while there is room.
-abbrev pub takesRoot : Image → Number → Onward
+abbrev pub takesRoot : Image → Number → Taken
 takesRoot image (Is n) =
     onIf (leb 2 (image .lines) && eqb (image .last) 0 && ltb (length (image .roots)) maxImageRoots)
     (record { lines = image .lines + 1; last = 0; keep = image .keep; roots = image .roots ++ n ∷ []; heap = image .heap })
 takesRoot image Wrong = off
 
 -- A `word` line stands behind these; its address is above the last one and in the heap, and its value is not 0.
-abbrev pub takesWord : Image → Pair → Onward
+abbrev pub takesWord : Image → Pair → Taken
 takesWord image (Are a v) =
     onIf (leb 2 (image .lines) && ltb (image .last) a && ltb a (length (image .heap)) && not (eqb v 0))
     (record { lines = image .lines + 1; last = a; keep = image .keep; roots = image .roots; heap = set (image .heap) a v })
@@ -83,8 +83,8 @@ starts (k ∷ key) [] = false
 starts (k ∷ key) (b ∷ line) = eqb k b && starts key line
 
 -- One line more: its key says what the part after the equals sign is.
-unfoldable pub onward : Image → List ℕ → Onward
-onward image line =
+unfoldable pub takesLine : Image → List ℕ → Taken
+takesLine image line =
     cond (starts (ascii "words=") line) (takesWords image (decimalOf (drop 6 line)))
     (cond (starts (ascii "keep=") line) (takesKeep image (decimalOf (drop 5 line)))
     (cond (starts (ascii "root=") line) (takesRoot image (decimalOf (drop 5 line)))
@@ -97,14 +97,14 @@ pub data Text : Type 0 where
   wrong : ℕ → Text
 
 -- On to the next line, or the number of this one.
-abbrev pub orWrong : ℕ → (Image → Text) → Onward → Text
+abbrev pub orWrong : ℕ → (Image → Text) → Taken → Text
 orWrong n next (on image) = next image
 orWrong n next off = wrong n
 
 -- The lines that are left; a missing line is the one after the last.
 unfoldable pub readOn : Image → List (List ℕ) → Text
 readOn image [] = unless (leb 2 (image .lines)) (wrong (image .lines + 1)) (right image)
-readOn image (line ∷ rest) = orWrong (image .lines + 1) (λ next. readOn next rest) (onward image (firstLine line))
+readOn image (line ∷ rest) = orWrong (image .lines + 1) (λ next. readOn next rest) (takesLine image (firstLine line))
 
 -- A text of at most 60,000 bytes is read line by line; a longer one is wrong in no line of its own.
 unfoldable pub textOf : List ℕ → Text

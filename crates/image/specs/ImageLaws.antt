@@ -12,7 +12,7 @@ use lib.Dec.{eqb}
 use borrow.Author.Tests.{eq-eqb, ne-eqb}
 use Rattle.image.specs.Ascii.{ascii}
 use Rattle.image.specs.Decimal.{decimalOf, pairOf}
-use Rattle.image.specs.Image.{Image, off, takesWords, takesKeep, takesRoot, takesWord, starts, onward}
+use Rattle.image.specs.Image.{Image, off, takesWords, takesKeep, takesRoot, takesWord, starts, takesLine}
 
 -- A line has the bytes that it starts with.
 pub starts-long : (key line : List ℕ) → starts key line ≡ true → length key ≤ length line
@@ -47,25 +47,25 @@ module _ (key line : List ℕ) (i : ℕ) (k : i < length key) (l : i < length li
 
 -- What a line is, key by key.
 module _ (image : Image) (line : List ℕ) where
-  pub line-words : starts (ascii "words=") line ≡ true → takesWords image (decimalOf (drop 6 line)) ≡ onward image line
-  unfolding onward
+  pub line-words : starts (ascii "words=") line ≡ true → takesWords image (decimalOf (drop 6 line)) ≡ takesLine image line
+  unfolding takesLine
   line-words e = rw e
 
   module _ (words : starts (ascii "words=") line ≡ false) where
-    pub line-keep : starts (ascii "keep=") line ≡ true → takesKeep image (decimalOf (drop 5 line)) ≡ onward image line
-    unfolding onward
+    pub line-keep : starts (ascii "keep=") line ≡ true → takesKeep image (decimalOf (drop 5 line)) ≡ takesLine image line
+    unfolding takesLine
     line-keep e = rw (words, e)
 
     module _ (keep : starts (ascii "keep=") line ≡ false) where
-      pub line-root : starts (ascii "root=") line ≡ true → takesRoot image (decimalOf (drop 5 line)) ≡ onward image line
-      unfolding onward
+      pub line-root : starts (ascii "root=") line ≡ true → takesRoot image (decimalOf (drop 5 line)) ≡ takesLine image line
+      unfolding takesLine
       line-root e = rw (words, keep, e)
 
       module _ (root : starts (ascii "root=") line ≡ false) where
-        pub line-word : starts (ascii "word=") line ≡ true → takesWord image (pairOf (drop 5 line)) ≡ onward image line
-        unfolding onward
+        pub line-word : starts (ascii "word=") line ≡ true → takesWord image (pairOf (drop 5 line)) ≡ takesLine image line
+        unfolding takesLine
         line-word e = rw (words, keep, root, e)
 
-        pub line-other : starts (ascii "word=") line ≡ false → off ≡ onward image line
-        unfolding onward
+        pub line-other : starts (ascii "word=") line ≡ false → off ≡ takesLine image line
+        unfolding takesLine
         line-other e = rw (words, keep, root, e)

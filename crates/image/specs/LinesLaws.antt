@@ -15,7 +15,7 @@ use Rattle.layout.specs.RefusalLaws.{by-test}
 use Rattle.image.specs.Lines.{maxLine, firstLine, before, linesOf}
 
 -- The first b in the front of a list is where it is in the list, or at the front's end.
-pub index-take : (b k : ℕ) (xs : List ℕ) → indexOf b (take k xs) ≡ min k (indexOf b xs)
+index-take : (b k : ℕ) (xs : List ℕ) → indexOf b (take k xs) ≡ min k (indexOf b xs)
 unfolding indexAfter indexOf
 index-take b zero xs = omega arith
 index-take b (suc k) [] = omega arith
@@ -26,7 +26,7 @@ index-take b (suc k) (x ∷ xs) = go (eqb x b) (index-take b k xs)
     go false e = omega arith
 
 -- A line that an LF ends in time ends there.
-pub line-ended : (text : List ℕ) → indexOf 10 text < length text → indexOf 10 text ≤ maxLine → firstLine text ≡ take (indexOf 10 text) text
+line-ended : (text : List ℕ) → indexOf 10 text < length text → indexOf 10 text ≤ maxLine → firstLine text ≡ take (indexOf 10 text) text
 unfolding firstLine
 line-ended text inside short = rw (lt-ltb (indexOf 10 text) (length text) inside, le-leb (indexOf 10 text) maxLine short)
 
@@ -48,7 +48,7 @@ line-either P text p q = by-test P (ltb (indexOf 10 text) (length text) && leb (
 pub line-length : (text : List ℕ) → firstLine text ≢ [] → length (firstLine text) ≡ indexOf 10 text
 line-length text = line-either (λ line. line ≢ [] → length line ≡ indexOf 10 text) text (λ inside some. length-take-le _ text (omega arith)) (λ some. absurd (some refl))
 
--- The text has that LF.
+-- That LF is in the text.
 pub line-inside : (text : List ℕ) → firstLine text ≢ [] → indexOf 10 text < length text
 line-inside text = line-either (λ line. line ≢ [] → indexOf 10 text < length text) text (λ inside some. inside) (λ some. absurd (some refl))
 

@@ -18,8 +18,8 @@ use Rattle.image.specs.Ascii.{ascii}
 use Rattle.image.specs.Decimal.{decimalOf, pairOf}
 use Rattle.image.specs.Lines.{firstLine, linesOf}
 use Rattle.image.specs.LinesLaws.{line-length, line-inside, line-alone, lines-next}
-use Rattle.image.specs.Image.{maxText, maxHeap, maxImageRoots, Image, Onward, on, off, onIf, takesWords, takesKeep, takesRoot, takesWord, starts, onward, right, wrong, orWrong, readOn, textOf}
-use Rattle.image.specs.Begun.{shows, showsNext, Small, SmallNext, Fits}
+use Rattle.image.specs.Image.{maxText, maxHeap, maxImageRoots, Image, Taken, on, off, onIf, takesWords, takesKeep, takesRoot, takesWord, starts, takesLine, right, wrong, orWrong, readOn, textOf}
+use Rattle.image.specs.Begun.{shows, showsNext, Small, SmallNext, LineFits}
 use Rattle.image.specs.declared.decimals.Number.{Number}
 use Rattle.image.specs.declared.decimals.Number.the-variants.{Is, Wrong}
 use Rattle.image.specs.declared.decimals.Pair.{Pair}
@@ -29,27 +29,27 @@ use Rattle.image.specs.declared.reading.Next.{Next}
 use Rattle.image.specs.declared.reading.Next.the-variants.{On, Off}
 
 -- What holds of each kind of line holds of any line.
-onward-any : (Q : Onward → Type 0) (image : Image) (line : List ℕ) → ((n : Number) → Q (takesWords image n)) → ((n : Number) → Q (takesKeep image n)) → ((n : Number) → Q (takesRoot image n))
-    → ((p : Pair) → Q (takesWord image p)) → Q off → Q (onward image line)
-unfolding onward
-onward-any Q image line words keep root word other =
+line-any : (Q : Taken → Type 0) (image : Image) (line : List ℕ) → ((n : Number) → Q (takesWords image n)) → ((n : Number) → Q (takesKeep image n)) → ((n : Number) → Q (takesRoot image n))
+    → ((p : Pair) → Q (takesWord image p)) → Q off → Q (takesLine image line)
+unfolding takesLine
+line-any Q image line words keep root word other =
     by-test Q (starts (ascii "words=") line) (λ e. words (decimalOf (drop 6 line))) (λ e.
     by-test Q (starts (ascii "keep=") line) (λ e. keep (decimalOf (drop 5 line))) (λ e.
     by-test Q (starts (ascii "root=") line) (λ e. root (decimalOf (drop 5 line))) (λ e.
     by-test Q (starts (ascii "word=") line) (λ e. word (pairOf (drop 5 line))) (λ e. other))))
 
 -- No bytes are no right line.
-none-off : (image : Image) → onward image [] ≡ off
-unfolding onward starts ascii
+none-off : (image : Image) → takesLine image [] ≡ off
+unfolding takesLine starts ascii
 none-off image = refl
 
 -- A line was right.
-abbrev IsOn : Onward → Type 0
+abbrev IsOn : Taken → Type 0
 IsOn (on next) = Unit {0}
 IsOn off = ⊥
 
 -- An image after one line more has at most one line more.
-abbrev OneMore : Image → Onward → Type 0
+abbrev OneMore : Image → Taken → Type 0
 OneMore image (on next) = next .lines ≤ image .lines + 1
 OneMore image off = Unit {0}
 
@@ -60,8 +60,8 @@ one-tested image true next le = le refl
 one-tested image false next le = tt
 
 -- So it is of any line.
-one-more : (image : Image) (line : List ℕ) → OneMore image (onward image line)
-one-more image line = onward-any (OneMore image) image line words keep root word tt
+one-more : (image : Image) (line : List ℕ) → OneMore image (takesLine image line)
+one-more image line = line-any (OneMore image) image line words keep root word tt
   where
     words : (number : Number) → OneMore image (takesWords image number)
     words (Is n) = one-tested image _ _ (λ e. le-add-left 1 (image .lines))
@@ -80,7 +80,7 @@ one-more image line = onward-any (OneMore image) image line words keep root word
     word Unlike = tt
 
 -- What is known between two lines: the lines that are left decide what the text is.
-pub record Reading (text roots heap : List ℕ) (b : Begun) (at : ℕ) : Type 0 where
+pub record Between (text roots heap : List ℕ) (b : Begun) (at : ℕ) : Type 0 where
   pub inside : at ≤ length text
   pub short : length text ≤ maxText
   pub lines-in : b .lines ≤ at
@@ -96,12 +96,12 @@ text-long text long = rw (lt-leb (length text) maxText long)
 
 -- Any other begins.
 pub text-begins : (text roots heap : List ℕ) → length text ≤ maxText → maxImageRoots ≤ length roots → maxHeap ≤ length heap
-    → Reading text roots heap (record { lines = 0; last = 0; keep = 0; roots = 0; words = 0 }) 0
+    → Between text roots heap (record { lines = 0; last = 0; keep = 0; roots = 0; words = 0 }) 0
 unfolding textOf
 text-begins text roots heap short r h =
     record { inside = omega arith; short = short; lines-in = omega arith; root-room = r; word-room = h; small = record { roots-in = omega arith; words-in = omega arith }; rest = rw (le-leb (length text) maxText short) }
 
-module _ {text roots heap : List ℕ} {b : Begun} {at : ℕ} (g : Reading text roots heap b at) where
+module _ {text roots heap : List ℕ} {b : Begun} {at : ℕ} (g : Between text roots heap b at) where
   -- At the end two lines at least were read, or one is missing.
   pub text-missing : length text ≤ at → b .lines < 2 → wrong (b .lines + 1) ≡ textOf text
   unfolding readOn linesOf
@@ -113,47 +113,47 @@ module _ {text roots heap : List ℕ} {b : Begun} {at : ℕ} (g : Reading text r
 
   -- Before the end there is a line.
   module _ (more : at < length text) where
-    pub line-fits : Fits b roots heap
+    pub line-fits : LineFits b roots heap
     line-fits = record { few = omega (arith, g .lines-in, g .short); root-room = g .root-room; word-room = g .word-room; small = g .small }
 
-    abbrev left : List ℕ
-    left = drop at text
+    abbrev unread : List ℕ
+    unread = drop at text
 
-    some-left : 0 < length left
-    some-left = omega (arith, length-drop at text)
+    some-unread : 0 < length unread
+    some-unread = omega (arith, length-drop at text)
 
     -- What is left to read, that line first.
-    line-first : readOn (shows b roots heap) (linesOf left) ≡ orWrong (b .lines + 1) (λ next. readOn next (linesOf (drop (suc (indexOf 10 left)) left))) (onward (shows b roots heap) (firstLine left))
+    line-first : readOn (shows b roots heap) (linesOf unread) ≡ orWrong (b .lines + 1) (λ next. readOn next (linesOf (drop (suc (indexOf 10 unread)) unread))) (takesLine (shows b roots heap) (firstLine unread))
     unfolding readOn
-    line-first = rw (lines-next left some-left, line-alone left)
+    line-first = rw (lines-next unread some-unread, line-alone unread)
 
-    module _ {line : List ℕ} (here : line ≡ firstLine left) where
+    module _ {line : List ℕ} (here : line ≡ firstLine unread) where
       -- A line that is wrong where it stands makes the text wrong.
-      pub line-stops : {came : Next} → came ≡ Off → (roots′ heap′ : List ℕ) → showsNext came roots′ heap′ ≡ onward (shows b roots heap) line → wrong (b .lines + 1) ≡ textOf text
+      pub line-stops : {came : Next} → came ≡ Off → (roots′ heap′ : List ℕ) → showsNext came roots′ heap′ ≡ takesLine (shows b roots heap) line → wrong (b .lines + 1) ≡ textOf text
       line-stops told roots′ heap′ e =
-          let is-off : onward (shows b roots heap) (firstLine left) ≡ off = ap (onward (shows b roots heap)) (sym here) ∙ sym e ∙ ap (λ (n : Next). showsNext n roots′ heap′) told in
+          let is-off : takesLine (shows b roots heap) (firstLine unread) ≡ off = ap (takesLine (shows b roots heap)) (sym here) ∙ sym e ∙ ap (λ (n : Next). showsNext n roots′ heap′) told in
           sym (line-first ∙ ap (orWrong (b .lines + 1) _) is-off) ∙ g .rest
 
       -- Any other is ended by an LF.
-      module _ {came : Next} {next : Begun} (told : came ≡ On next) (roots′ heap′ : List ℕ) (e : showsNext came roots′ heap′ ≡ onward (shows b roots heap) line) where
-        goes : onward (shows b roots heap) (firstLine left) ≡ on (shows next roots′ heap′)
-        goes = ap (onward (shows b roots heap)) (sym here) ∙ sym e ∙ ap (λ (n : Next). showsNext n roots′ heap′) told
+      module _ {came : Next} {next : Begun} (told : came ≡ On next) (roots′ heap′ : List ℕ) (e : showsNext came roots′ heap′ ≡ takesLine (shows b roots heap) line) where
+        goes : takesLine (shows b roots heap) (firstLine unread) ≡ on (shows next roots′ heap′)
+        goes = ap (takesLine (shows b roots heap)) (sym here) ∙ sym e ∙ ap (λ (n : Next). showsNext n roots′ heap′) told
 
-        some : firstLine left ≢ []
-        some none = subst IsOn (sym goes ∙ ap (onward (shows b roots heap)) none ∙ none-off (shows b roots heap)) tt
+        some : firstLine unread ≢ []
+        some none = subst IsOn (sym goes ∙ ap (takesLine (shows b roots heap)) none ∙ none-off (shows b roots heap)) tt
 
-        behind : suc (indexOf 10 left) ≡ length line + 1
-        behind = omega (arith, ap length here, line-length left some)
+        behind : suc (indexOf 10 unread) ≡ length line + 1
+        behind = omega (arith, ap length here, line-length unread some)
 
         -- The next line begins behind it, in the text.
         pub next-inside : at + (length line + 1) ≤ length text
-        next-inside = omega (arith, behind, line-inside left some, length-drop at text)
+        next-inside = omega (arith, behind, line-inside unread some, length-drop at text)
 
         -- And so it goes on.
-        pub line-goes : maxImageRoots ≤ length roots′ → maxHeap ≤ length heap′ → SmallNext came → Reading text roots′ heap′ next (at + (length line + 1))
+        pub line-goes : maxImageRoots ≤ length roots′ → maxHeap ≤ length heap′ → SmallNext came → Between text roots′ heap′ next (at + (length line + 1))
         line-goes r h small =
-            let count : next .lines ≤ b .lines + 1 = subst (OneMore (shows b roots heap)) goes (one-more (shows b roots heap) (firstLine left)) in
-            let left-then : drop (suc (indexOf 10 left)) left ≡ drop (at + (length line + 1)) text = rw behind (drop-drop (length line + 1) at text) in
+            let count : next .lines ≤ b .lines + 1 = subst (OneMore (shows b roots heap)) goes (one-more (shows b roots heap) (firstLine unread)) in
+            let left-then : drop (suc (indexOf 10 unread)) unread ≡ drop (at + (length line + 1)) text = rw behind (drop-drop (length line + 1) at text) in
             record {
               inside = next-inside;
               short = g .short;

@@ -10,8 +10,8 @@ ghost use Prim.Native.Nat.{_≤_, _<_};
 ghost use mathlib.Core.List.{List};
 ghost use lib.ListN.{length};
 ghost use Prim.Native.Nat.{ℕ};
-ghost use Rattle.image.specs.Image.{maxText, maxHeap, maxImageRoots, takesWords, takesKeep, takesRoot, takesWord, starts, onward, textOf};
-ghost use Rattle.image.specs.Begun.{shows, showsNext, showsFound, Small, SmallNext, Fits};
+ghost use Rattle.image.specs.Image.{maxText, maxHeap, maxImageRoots, takesWords, takesKeep, takesRoot, takesWord, starts, takesLine, textOf};
+ghost use Rattle.image.specs.Begun.{shows, showsNext, showsFound, Small, SmallNext, LineFits};
 
 // How many lines were read, the address that the last `word` line names, keep length, and how many roots and words there are.
 pub struct Begun {
@@ -142,9 +142,9 @@ fn take_word(begun: Begun, pair: Pair, heap: &mut [u32]) -> Next
 
 // One line more: its key says what the part after the equals sign is.
 fn take(begun: Begun, line: &[u8], roots: &mut [u32], heap: &mut [u32]) -> Next
-    requires { ⌜ Fits begun (now roots) (now heap) ⌝ }
+    requires { ⌜ LineFits begun (now roots) (now heap) ⌝ }
     ensures { λ r.
-        ⌜ showsNext r (now (roots .exit)) (now (heap .exit)) ≡ onward (shows begun (now (roots .entry)) (now (heap .entry))) (now (line .entry)) ⌝ }
+        ⌜ showsNext r (now (roots .exit)) (now (heap .exit)) ≡ takesLine (shows begun (now (roots .entry)) (now (heap .entry))) (now (line .entry)) ⌝ }
     ensures { λ r. ⌜ SmallNext r ⌝ }
 {
     if starts(line, b"words=") {

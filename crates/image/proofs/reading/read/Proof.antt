@@ -4,12 +4,12 @@ use mathlib.Core.Path.{_≡_, refl, _∙_}
 use native.Mathlib.Omega.{arith}
 use lib.ListN.{length}
 use borrow.Author.Needs.{needs}
-use Rattle.image.specs.ReadingLaws.{Reading, text-long, text-begins, text-missing, text-ends, line-fits, line-stops, next-inside, line-goes}
+use Rattle.image.specs.ReadingLaws.{Between, text-long, text-begins, text-missing, text-ends, line-fits, line-stops, next-inside, line-goes}
 use Rattle.image.proofs.reading.read.Statement.{statement}
 use Rattle.image.proofs.reading.read.Tie as tie
 
 abbrev Inv-loop : tie.InvT-loop
-Inv-loop text roots₀ heap₀ begun₀ at₀ roots heap begun at = Reading text roots heap begun at × (length roots ≡ length roots₀) × (length heap ≡ length heap₀)
+Inv-loop text roots₀ heap₀ begun₀ at₀ roots heap begun at = Between text roots heap begun at × (length roots ≡ length roots₀) × (length heap ≡ length heap₀)
 
 abbrev μ-loop : tie.MeasureT-loop
 μ-loop text roots₀ heap₀ begun₀ at₀ roots heap begun at = length text - at

@@ -1,0 +1,64 @@
+-- The program's answer, as a function from the input's bytes to the output's.
+use Prim.Native.Nat.{ℕ}
+use mathlib.Core.List.{List, _++_}
+use lib.ListN.{length, drop, replicate}
+use lib.Dec.{leb, eqb}
+use Rattle.layout.specs.Refusal.{unless}
+use Rattle.layout.specs.SetUp.{Prepared, setsUp}
+use Rattle.collector.specs.Collect.{Left, collects}
+use Rattle.collector.specs.declared.Collected.{Collected}
+use Rattle.freelist.specs.Records.{records}
+use Rattle.freelist.specs.declared.figures.Figures.{Figures}
+use Rattle.store.specs.Survey.{surveys}
+use Rattle.store.specs.declared.surveys.Surveyed.{Surveyed}
+use Rattle.image.specs.Ascii.{ascii}
+use Rattle.image.specs.Image.{Text, right, wrong, textOf}
+use Rattle.report.specs.Printed.{said, freeLines}
+
+-- The two lines that come first, and alone after a refusal.
+abbrev pub codeLines : ℕ → ℕ → List ℕ
+codeLines code place = said (ascii "code=") code ++ said (ascii "where=") place
+
+-- After a success: the collection's counts, and the survey's figures.
+unfoldable pub countLines : Collected → Figures → List ℕ
+countLines c f =
+    codeLines 0 0 ++ said (ascii "objects=") (c .objects) ++ said (ascii "live=") (c .live) ++ said (ascii "references=") (c .references) ++ said (ascii "peak=") (c .peak)
+    ++ said (ascii "listed=") (f .listed) ++ said (ascii "largest=") (f .largest) ++ said (ascii "fragment=") (f .fragment)
+
+-- Set-up, collection and survey of a heap, in buffers that are enough for 4,096 words with any keep length.
+unfoldable pub collected : List ℕ → ℕ → List ℕ → List ℕ
+collected heap t roots =
+    let fresh : Prepared = setsUp heap t (replicate 128 0) (replicate 8190 0) in
+    let c : Left = collects (fresh .answer .state) heap roots (fresh .map) (replicate 4095 0) (fresh .list) in
+    let s : Surveyed = surveys (c .answer .state) (c .list) in
+    unless (eqb (c .answer .code) 0) (codeLines (c .answer .code) (c .answer .place))
+    (unless (eqb (s .code) 0) (codeLines (s .code) 0)
+    (countLines (c .answer) (s .figures) ++ freeLines (records (c .answer .state .count) (c .list))))
+
+-- The answer to a text.
+abbrev pub answerTo : Text → List ℕ
+answerTo (right image) = collected (image .heap) (image .keep) (image .roots)
+answerTo (wrong line) = codeLines 12 line
+
+-- The whole answer: from the input's bytes to the output's.
+unfoldable pub answer : List ℕ → List ℕ
+answer text = answerTo (textOf text)
+
+-- How many bytes are lent for an answer.
+abbrev pub answerRoom : ℕ
+answerRoom = 65536
+
+-- How many bytes were written, and what the output buffer then holds.
+pub record Written : Type 0 where
+  pub count : ℕ
+  pub out : List ℕ
+
+-- Both, put together.
+abbrev pub written : ℕ → List ℕ → Written
+written count out = record { count = count; out = out }
+
+-- The answer at the front of the output buffer and its length; 0 and no byte where the buffer is too short.
+unfoldable pub answers : List ℕ → List ℕ → Written
+answers text out =
+    unless (leb answerRoom (length out)) (written 0 out)
+    (written (length (answer text)) (answer text ++ drop (length (answer text)) out))
