@@ -104,7 +104,7 @@ module _ (state : State) (heap : List ℕ) {map map′ : List ℕ} (am : Alike (
     pub write-unread : (v : ℕ) → writes state heap map a k v ≡ writes state heap map′ a k v
     unfolding writes takes fieldCode
     write-unread v = rw field-same (by-tests _≡_ (eqb (fieldCode state heap map′ a k) 0) (λ none.
-        let ok : suits state heap ≡ true = no-refusal (suits state heap) 1 _ (lit< tt) (eqb-true (fieldCode state heap map′ a k) 0 none) .0 in
+        let ok : suits state heap ≡ true = no-refusal (λ (n : ℕ). n) (suits state heap) 1 _ (lit< tt) (eqb-true (fieldCode state heap map′ a k) 0 none) .0 in
         rw (start-same ok v))
         (λ some. refl))
 

@@ -5,7 +5,7 @@ use mathlib.Core.Logic.{_↔_}
 use mathlib.Core.Bool.{true, false, _&&_, and-eq-true-iff}
 use mathlib.Core.List.{List, [], _∷_, _++_}
 use native.Mathlib.Omega.{arith}
-use lib.ListN.{length, getD, drop}
+use lib.ListN.{length, getD, take, drop}
 use lib.Seq.{drop-cons, drop-length}
 use lib.Dec.{leb, ltb}
 use borrow.Author.Tests.{le-leb, lt-leb, lt-ltb, ltb-true, leb-true}
@@ -46,6 +46,16 @@ records-next n list i h =
 -- From the count on comes none.
 pub records-end : (n : ℕ) (list : List ℕ) (i : ℕ) → i ≡ n → drop i (records n list) ≡ []
 records-end n list i e = rw (e ∙ sym (length-records n list)) (drop-length (records n list))
+
+-- The records in a list's front are the list's.
+pub records-part : (n m : ℕ) (list : List ℕ) → 2 * n ≤ m → records n (take m list) ≡ records n list
+unfolding records
+records-part zero m list h = refl
+records-part (suc n) zero list h = absurd (omega arith)
+records-part (suc n) (suc zero) list h = absurd (omega arith)
+records-part (suc n) (suc (suc m)) [] h = refl
+records-part (suc n) (suc (suc m)) (x ∷ []) h = refl
+records-part (suc n) (suc (suc m)) (x ∷ y ∷ list) h = ap (λ (l : List Interval). recordAt (x ∷ y ∷ []) 0 ∷ l) (records-part n m list (omega arith))
 
 -- The words are those of the records, and what follows them.
 pub records-flat : (n : ℕ) (list : List ℕ) → 2 * n ≤ length list → list ≡ flat (records n list) ++ drop (2 * n) list

@@ -34,6 +34,11 @@ abbrev pub SmallNext : Next → Type 0
 SmallNext (On b) = Small b
 SmallNext Off = Unit {0}
 
+-- The same of what a text is.
+abbrev pub SmallFound : Found → Type 0
+SmallFound (Right b) = Small b
+SmallFound (WrongLine n) = Unit {0}
+
 -- There is room for any image, and a line may follow.
 pub record LineFits (b : Begun) (roots heap : List ℕ) : Type 0 where
   pub few : b .lines < maxText

@@ -8,3 +8,4 @@ pub mod ImageLaws
 pub mod Begun
 pub mod BegunLaws
 pub mod ReadingLaws
+pub mod TextLaws

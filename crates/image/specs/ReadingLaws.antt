@@ -29,7 +29,7 @@ use Rattle.image.specs.declared.reading.Next.{Next}
 use Rattle.image.specs.declared.reading.Next.the-variants.{On, Off}
 
 -- What holds of each kind of line holds of any line.
-line-any : (Q : Taken → Type 0) (image : Image) (line : List ℕ) → ((n : Number) → Q (takesWords image n)) → ((n : Number) → Q (takesKeep image n)) → ((n : Number) → Q (takesRoot image n))
+pub line-any : (Q : Taken → Type 0) (image : Image) (line : List ℕ) → ((n : Number) → Q (takesWords image n)) → ((n : Number) → Q (takesKeep image n)) → ((n : Number) → Q (takesRoot image n))
     → ((p : Pair) → Q (takesWord image p)) → Q off → Q (takesLine image line)
 unfolding takesLine
 line-any Q image line words keep root word other =

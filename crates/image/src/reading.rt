@@ -11,7 +11,7 @@ ghost use mathlib.Core.List.{List};
 ghost use lib.ListN.{length};
 ghost use Prim.Native.Nat.{ℕ};
 ghost use Rattle.image.specs.Image.{maxText, maxHeap, maxImageRoots, takesWords, takesKeep, takesRoot, takesWord, starts, takesLine, textOf};
-ghost use Rattle.image.specs.Begun.{shows, showsNext, showsFound, Small, SmallNext, LineFits};
+ghost use Rattle.image.specs.Begun.{shows, showsNext, showsFound, Small, SmallNext, SmallFound, LineFits};
 
 // How many lines were read, the address that the last `word` line names, keep length, and how many roots and words there are.
 pub struct Begun {
@@ -166,6 +166,7 @@ fn take(begun: Begun, line: &[u8], roots: &mut [u32], heap: &mut [u32]) -> Next
 pub fn read(text: &[u8], roots: &mut [u32], heap: &mut [u32]) -> Found
     requires { ⌜ (maxImageRoots ≤ length (now roots)) × (maxHeap ≤ length (now heap)) ⌝ }
     ensures { λ r. ⌜ showsFound r (now (roots .exit)) (now (heap .exit)) ≡ textOf (now (text .entry)) ⌝ }
+    ensures { λ r. ⌜ SmallFound r ⌝ }
 {
     if 60000 < text.len() {
         return Found::WrongLine(0);

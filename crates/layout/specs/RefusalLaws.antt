@@ -11,6 +11,6 @@ by-test P true p q = p refl
 by-test P false p q = q refl
 
 -- Where no number but 0 comes out, the test held, and 0 came from what was next.
-pub no-refusal : (test : Bool) (n next : ℕ) → 0 < n → unless test n next ≡ 0 → (test ≡ true) × (next ≡ 0)
-no-refusal true n next some e = (refl, e)
-no-refusal false n next some e = absurd (omega arith)
+pub no-refusal : {A : Type 0} (code : A → ℕ) (test : Bool) (refusal next : A) → 0 < code refusal → code (unless test refusal next) ≡ 0 → (test ≡ true) × (code next ≡ 0)
+no-refusal code true refusal next some e = (refl, e)
+no-refusal code false refusal next some e = absurd (omega arith)

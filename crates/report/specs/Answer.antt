@@ -58,7 +58,7 @@ abbrev pub written : ℕ → List ℕ → Written
 written count out = record { count = count; out = out }
 
 -- The answer at the front of the output buffer and its length; 0 and no byte where the buffer is too short.
-unfoldable pub answers : List ℕ → List ℕ → Written
-answers text out =
+unfoldable pub reports : List ℕ → List ℕ → Written
+reports text out =
     unless (leb answerRoom (length out)) (written 0 out)
     (written (length (answer text)) (answer text ++ drop (length (answer text)) out))

@@ -1,3 +1,6 @@
 pub mod Printed
 pub mod Answer
 pub mod Puts
+pub mod PutsLaws
+pub mod PrintedLaws
+pub mod AnswerLaws

@@ -119,8 +119,8 @@ module _ {state : State} {heap map list : List ℕ} (z : Parts state heap map li
     ready =
         let h : ℕ = state .words in
         let t : ℕ = state .keep in
-        let v = no-refusal (validList h t (state .count) list) 3 _ (lit< tt) (sym e ∙ none) in
-        let q = no-refusal (askable t s p) 7 0 (lit< tt) (v .1) in
+        let v = no-refusal (λ (n : ℕ). n) (validList h t (state .count) list) 3 _ (lit< tt) (sym e ∙ none) in
+        let q = no-refusal (λ (n : ℕ). n) (askable t s p) 7 0 (lit< tt) (v .1) in
         let own = suits-limits state heap (z .suit) in
         let o = valid-ordered h t (state .count) list (v .0) in
         let able = and-eq-true-iff (leb t s && leb s 65535) _ .0 (q .0) in

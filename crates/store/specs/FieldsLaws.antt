@@ -53,9 +53,9 @@ module _ (heap : List ℕ) (t : ℕ) (map : List ℕ) (a k : ℕ) where
 pub object-field : (heap : List ℕ) (t : ℕ) (map : List ℕ) (a k : ℕ) → objectCode heap t map a k ≡ 0 → (isStart (length heap) map a ≡ true) × (wellFormed heap t a ≡ true) × (k < sizeAt heap a - 1)
 unfolding objectCode
 object-field heap t map a k e =
-    let x = no-refusal (isStart (length heap) map a) 9 _ (lit< tt) e in
-    let y = no-refusal (wellFormed heap t a) 5 _ (lit< tt) (x .1) in
-    let z = no-refusal (ltb k (sizeAt heap a - 1)) 10 0 (lit< tt) (y .1) in
+    let x = no-refusal (λ (n : ℕ). n) (isStart (length heap) map a) 9 _ (lit< tt) e in
+    let y = no-refusal (λ (n : ℕ). n) (wellFormed heap t a) 5 _ (lit< tt) (x .1) in
+    let z = no-refusal (λ (n : ℕ). n) (ltb k (sizeAt heap a - 1)) 10 0 (lit< tt) (y .1) in
     (x .0, y .0, ltb-true k (sizeAt heap a - 1) (z .0))
 
 -- A field of a well-formed object lies in the heap.
@@ -94,8 +94,8 @@ module _ (state : State) (heap map : List ℕ) (a k : ℕ) {code : ℕ} (e : cod
   unfolding fieldCode
   field z =
       let h : ℕ = state .words in
-      let x = no-refusal (suits state heap) 1 _ (lit< tt) (sym e ∙ z) in
-      let y = no-refusal (leb (mapWords h) (length map)) 2 _ (lit< tt) (x .1) in
+      let x = no-refusal (λ (n : ℕ). n) (suits state heap) 1 _ (lit< tt) (sym e ∙ z) in
+      let y = no-refusal (λ (n : ℕ). n) (leb (mapWords h) (length map)) 2 _ (lit< tt) (x .1) in
       let l = suits-limits state heap (x .0) in
       let enough : h ≤ 32 * length map = bits-enough h (length map) (leb-true (mapWords h) (length map) (y .0)) in
       let z = object-field heap (state .keep) map a k (y .1) in

@@ -15,7 +15,7 @@ abbrev μ-loop : tie.MeasureT-loop
 μ-loop text roots₀ heap₀ begun₀ at₀ roots heap begun at = length text - at
 
 returns : tie.Need-returns Inv-loop μ-loop
-returns c = text-long (c .before .before .before .before .args .text .now) (c .if1 .taken)
+returns c = (text-long (c .before .before .before .before .args .text .now) (c .if1 .taken), tt)
 
 loop-holds : tie.Need-loop-holds Inv-loop μ-loop
 loop-holds c = let t = c .before .before .before .before in (text-begins (t .args .text .now) (t .args .roots .now) (t .args .heap .now) (omega arith) (t .pre .0) (t .pre .1), refl, refl)
@@ -45,7 +45,7 @@ returns-2 : tie.Need-returns-2 Inv-loop μ-loop
 returns-2 c =
     let h = c .before .before .before .before .before .before .before .before .before .before .before .before .loop in
     let t = c .before .before .before .before .before .before .before .take in
-    line-stops (h .inv .0) (omega arith) (c .before .before .before .before .before .before .before .before .before .before .line-from .ensures) (c .before .enum-told .given .1) (t .last .1 .1 .0) (t .last .1 .1 .1 .0) (t .ensures .0)
+    (line-stops (h .inv .0) (omega arith) (c .before .before .before .before .before .before .before .before .before .before .line-from .ensures) (c .before .enum-told .given .1) (t .last .1 .1 .0) (t .last .1 .1 .1 .0) (t .ensures .0), tt)
 
 add-at : tie.Need-add-at Inv-loop μ-loop
 add-at c = search needs
@@ -78,7 +78,7 @@ same-length-4 : tie.Need-same-length-4 Inv-loop μ-loop
 same-length-4 c = search needs
 
 returns-3 : tie.Need-returns-3 Inv-loop μ-loop
-returns-3 c = text-missing (c .before .before .before .before .loop .inv .0) (omega arith) (omega arith)
+returns-3 c = (text-missing (c .before .before .before .before .loop .inv .0) (omega arith) (omega arith), tt)
 
 same-length-5 : tie.Need-same-length-5 Inv-loop μ-loop
 same-length-5 c = search needs
@@ -87,7 +87,7 @@ same-length-6 : tie.Need-same-length-6 Inv-loop μ-loop
 same-length-6 c = search needs
 
 returns-4 : tie.Need-returns-4 Inv-loop μ-loop
-returns-4 c = text-ends (c .before .before .before .loop .inv .0) (omega arith) (omega arith)
+returns-4 c = let g = c .before .before .before .loop .inv .0 in (text-ends g (omega arith) (omega arith), record { roots-in = g .small .roots-in; words-in = g .small .words-in })
 
 pub read-spec : {M : Type 1} → statement M
 read-spec =
