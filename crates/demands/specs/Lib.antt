@@ -45,3 +45,5 @@ pub mod MayLeaveHolds
 pub mod SamenessInnerHolds
 pub mod UnreadHolds
 pub mod ExamplesHold
+pub mod Texts
+pub mod TextsHold
