@@ -6,16 +6,11 @@ use mathlib.Core.List.{List}
 use mathlib.Mathlib.Data.Bool.Basic.{eq-false-of-not-eq-true}
 use native.Mathlib.Omega.{arith}
 use native.Mathlib.Decide.{ℕ-discrete}
-use lib.ListN.{length}
-use borrow.Author.Tests.{le-leb}
 use Rattle.words.specs.Header.{refsAt}
 use Rattle.words.specs.HeaderLaws.{equal-size, equal-refs}
-use Rattle.layout.specs.Limits.{listWords}
-use Rattle.layout.specs.LimitsLaws.{suits-within}
 use Rattle.layout.specs.declared.State.{State}
 use Rattle.freelist.specs.Records.{records}
 use Rattle.freelist.specs.Figures.{figuresOf}
-use Rattle.store.specs.Survey.{surveys}
 use Rattle.store.specs.Fields.{Written, objectCode, fieldCode, takes}
 use Rattle.store.specs.FieldsLaws.{start-takes, takes-start, no-start, no-field, has-field, read-refused, read-given, write-refused, write-untaken, write-stored}
 use Rattle.demands.specs.Reach.{Reach}
@@ -23,7 +18,7 @@ use Rattle.demands.specs.World.{collect, fieldAt, readsOn, surveysOn, wr
 use Rattle.demands.specs.History.{History, _then_, world, keepOf, Rooted, Keeps, Held, allottedAs}
 use Rattle.demands.specs.Answers.{ReadAnswers, WriteAnswers}
 use Rattle.demands.specs.Stands.{Agrees}
-use Rattle.demands.specs.StandsLaws.{part-read, list-read, list-valid}
+use Rattle.demands.specs.StandsLaws.{stands-surveyed}
 use Rattle.demands.specs.Demand3CollectHolds.{reached-on}
 use Rattle.demands.specs.Demand3WriteHolds.{field-code}
 use Rattle.demands.specs.AgreesLaws.{agrees}
@@ -107,11 +102,7 @@ module _ (past : History) (keeps : Keeps past) where
 
   -- A survey gives the figures of the list.
   pub survey-answers : surveysOn (world past) ≡ record { code = 0; figures = figuresOf (records (world past .state .count) (world past .list)) }
-  unfolding surveys
-  survey-answers =
-      let g = told .stands in
-      let n : ℕ = listWords (state .words) (state .keep) in
-      rw (suits-within state heap (g .lent .bounded .suit), le-leb n (length (world past .list)) (g .lent .list-room), list-valid g, part-read g, list-read g) refl
+  survey-answers = stands-surveyed (told .stands)
 
   -- What is held after a collection is just what its roots reach.
   pub held-reached : {roots : List ℕ} → Rooted (world past) roots → (a : ℕ) → Held (past then collect roots) a ↔ Reach heap (keepOf past) roots a

@@ -6,8 +6,8 @@ use Rattle.layout.specs.Limits.{mapWords, stackWords, listWords}
 use Rattle.demands.specs.World.{World, Call, allot, read, write, collect, survey, after, answers}
 use Rattle.demands.specs.History.{History, set-up, world, onward}
 
--- An image: the heap's length, the keep length, and the words that are not 0, each with its address.
-pub record Image : Type 0 where
+-- What an example begins with: the heap's length, the keep length, and the words that are not 0, each with its address.
+pub record Setting : Type 0 where
   pub words : ℕ
   pub keep : ℕ
   pub given : List (ℕ × ℕ)
@@ -19,9 +19,9 @@ pub record Seen : Type 0 where
   pub list : List ℕ
   pub rest : List ℕ
 
--- A worked example: an image, the calls made after its set-up, one last call, and what must be seen of that one.
+-- A worked example: a setting, the calls made after its set-up, one last call, and what must be seen of that one.
 pub record Example : Type 0 where
-  pub image : Image
+  pub setting : Setting
   pub before : List Call
   pub last : Call
   pub expected : Seen
@@ -35,8 +35,8 @@ laid h (g ∷ given) = set (laid h given) (g .0) (g .1)
 abbrev pub junk : ℕ → List ℕ
 junk n = replicate n 9
 
--- The set-up of an image, with buffers of just the needed lengths.
-unfoldable pub setUpOf : Image → History
+-- The set-up of a setting, with buffers of just the needed lengths.
+unfoldable pub setUpOf : Setting → History
 setUpOf i =
     let h : ℕ = i .words in
     let t : ℕ = i .keep in
@@ -45,34 +45,34 @@ setUpOf i =
 -- What is seen of an example's last call.
 unfoldable pub seen : Example → Seen
 seen e =
-    let w : World = world (onward (setUpOf (e .image)) (e .before)) in
+    let w : World = world (onward (setUpOf (e .setting)) (e .before)) in
     let next : World = after w (e .last) in
     let used : ℕ = 2 * next .state .count in
     record { answer = answers w (e .last); map = next .map; list = take used (next .list); rest = drop used (next .list) ++ next .stack }
 
--- An image, put together.
-abbrev pub image : ℕ → ℕ → List (ℕ × ℕ) → Image
-image words keep given = record { words = words; keep = keep; given = given }
+-- A setting, put together.
+abbrev pub setting : ℕ → ℕ → List (ℕ × ℕ) → Setting
+setting words keep given = record { words = words; keep = keep; given = given }
 
--- A row of the table: image, calls before, last call; answer, map, list. The rest is expected to be zeros.
-abbrev pub row : Image → List Call → Call → List ℕ → List ℕ → List ℕ → Example
-row i before last answer map list = record { image = i; before = before; last = last; expected = record { answer = answer; map = map; list = list; rest = replicate (listWords (i .words) (i .keep) - length list + stackWords (i .words) (i .keep)) 0 } }
+-- A row of the table: setting, calls before, last call; answer, map, list. The rest is expected to be zeros.
+abbrev pub row : Setting → List Call → Call → List ℕ → List ℕ → List ℕ → Example
+row i before last answer map list = record { setting = i; before = before; last = last; expected = record { answer = answer; map = map; list = list; rest = replicate (listWords (i .words) (i .keep) - length list + stackWords (i .words) (i .keep)) 0 } }
 
--- The image of P1 to P3: an object at 1 refers to one at 8.
-abbrev pub linked : Image
-linked = image 16 2 ((1, 65539) ∷ (2, 8) ∷ (8, 2) ∷ [])
+-- The setting of P1 to P3: an object at 1 refers to one at 8.
+abbrev pub linked : Setting
+linked = setting 16 2 ((1, 65539) ∷ (2, 8) ∷ (8, 2) ∷ [])
 
--- The image of P4 and P5: three objects fill the heap.
-abbrev pub touching : Image
-touching = image 7 2 ((1, 2) ∷ (3, 2) ∷ (5, 2) ∷ [])
+-- The setting of P4 and P5: three objects fill the heap.
+abbrev pub touching : Setting
+touching = setting 7 2 ((1, 2) ∷ (3, 2) ∷ (5, 2) ∷ [])
 
--- The image of P6 to P8: the object at 2 lies in the words of the one at 1.
-abbrev pub nested : Image
-nested = image 8 2 ((1, 4) ∷ (2, 2) ∷ [])
+-- The setting of P6 to P8: the object at 2 lies in the words of the one at 1.
+abbrev pub nested : Setting
+nested = setting 8 2 ((1, 4) ∷ (2, 2) ∷ [])
 
--- The image of H1 to H4: no object, and junk in two words.
-abbrev pub littered : Image
-littered = image 8 2 ((2, 9) ∷ (3, 9) ∷ [])
+-- The setting of H1 to H4: no object, and junk in two words.
+abbrev pub littered : Setting
+littered = setting 8 2 ((2, 9) ∷ (3, 9) ∷ [])
 
 -- The table: a row for each case of each example.
 unfoldable pub table : List Example
@@ -96,14 +96,14 @@ table =
     -- P8: the inner object is met alone.
     row nested [] (collect (2 ∷ [])) (0 ∷ 0 ∷ 1 ∷ 2 ∷ 1 ∷ 1 ∷ []) (4 ∷ []) (4 ∷ 4 ∷ []) ∷
     -- P9: an object ends one word past the heap's end, or just there.
-    row (image 8 2 ((6, 3) ∷ [])) [] (collect (6 ∷ [])) (5 ∷ 6 ∷ 0 ∷ 0 ∷ 0 ∷ 0 ∷ []) (0 ∷ []) [] ∷
-    row (image 8 2 ((6, 2) ∷ [])) [] (collect (6 ∷ [])) (0 ∷ 0 ∷ 1 ∷ 2 ∷ 1 ∷ 1 ∷ []) (64 ∷ []) (1 ∷ 5 ∷ []) ∷
+    row (setting 8 2 ((6, 3) ∷ [])) [] (collect (6 ∷ [])) (5 ∷ 6 ∷ 0 ∷ 0 ∷ 0 ∷ 0 ∷ []) (0 ∷ []) [] ∷
+    row (setting 8 2 ((6, 2) ∷ [])) [] (collect (6 ∷ [])) (0 ∷ 0 ∷ 1 ∷ 2 ∷ 1 ∷ 1 ∷ []) (64 ∷ []) (1 ∷ 5 ∷ []) ∷
     -- P10: an object has as many references as words, or one fewer.
-    row (image 8 2 ((1, 131074) ∷ [])) [] (collect (1 ∷ [])) (5 ∷ 1 ∷ 0 ∷ 0 ∷ 0 ∷ 0 ∷ []) (0 ∷ []) [] ∷
-    row (image 8 2 ((1, 65538) ∷ [])) [] (collect (1 ∷ [])) (0 ∷ 0 ∷ 1 ∷ 2 ∷ 2 ∷ 1 ∷ []) (2 ∷ []) (3 ∷ 5 ∷ []) ∷
+    row (setting 8 2 ((1, 131074) ∷ [])) [] (collect (1 ∷ [])) (5 ∷ 1 ∷ 0 ∷ 0 ∷ 0 ∷ 0 ∷ []) (0 ∷ []) [] ∷
+    row (setting 8 2 ((1, 65538) ∷ [])) [] (collect (1 ∷ [])) (0 ∷ 0 ∷ 1 ∷ 2 ∷ 2 ∷ 1 ∷ []) (2 ∷ []) (3 ∷ 5 ∷ []) ∷
     -- P11: the heap is word 0 alone, with no root, or with one.
-    row (image 1 1 []) [] (collect []) (0 ∷ 0 ∷ 0 ∷ 0 ∷ 0 ∷ 0 ∷ []) (0 ∷ []) [] ∷
-    row (image 1 1 []) [] (collect (1 ∷ [])) (4 ∷ 1 ∷ 0 ∷ 0 ∷ 0 ∷ 0 ∷ []) (0 ∷ []) [] ∷
+    row (setting 1 1 []) [] (collect []) (0 ∷ 0 ∷ 0 ∷ 0 ∷ 0 ∷ 0 ∷ []) (0 ∷ []) [] ∷
+    row (setting 1 1 []) [] (collect (1 ∷ [])) (4 ∷ 1 ∷ 0 ∷ 0 ∷ 0 ∷ 0 ∷ []) (0 ∷ []) [] ∷
     -- H1: the fields of a new object are 0, whatever stood there.
     row littered (collect [] ∷ allot 3 1 ∷ []) (read 1 0) (0 ∷ 0 ∷ []) (2 ∷ []) (4 ∷ 4 ∷ []) ∷
     -- H2: its reference field takes no address where no object starts.

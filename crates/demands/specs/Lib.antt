@@ -47,3 +47,5 @@ pub mod UnreadHolds
 pub mod ExamplesHold
 pub mod Texts
 pub mod TextsHold
+pub mod Program
+pub mod ProgramHolds

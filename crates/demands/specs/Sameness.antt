@@ -26,6 +26,8 @@ use Rattle.store.proofs.allot as allot
 use Rattle.store.proofs.read as read
 use Rattle.store.proofs.write as write
 use Rattle.store.proofs.survey as survey
+use Rattle.report.specs.Answer.{Output}
+use Rattle.report.proofs.answer as answer
 
 -- A contract at given arguments: what it asks of the caller, and which outcomes it allows.
 pub record Contract (A : Type 0) : Type 1 where
@@ -136,6 +138,19 @@ module _ (κs : Lfts 1) (state : State) (list : Loan) where
   -- The contract of survey.
   abbrev pub surveyContract : Contract Surveyed
   surveyContract = record { asks = survey.Reads.Asked κs surveyBegin; allows = λ x. survey.Reads.Learnt κs surveyBegin x surveyEnd }
+
+module _ (κs : Lfts 2) (text out : Loan) where
+  -- What the text program's `answer` is handed.
+  abbrev answerBegin : Dens κs answer.Kinds.ps
+  answerBegin = (text, (out, tt))
+
+  -- The same at exit, where the output buffer has the bytes of the outcome.
+  abbrev pub answerEnd : Output → AtExit answer.ended κs
+  answerEnd x = atExit answer.ended κs answerBegin (tt, (x .out, tt))
+
+  -- The contract of `answer`.
+  abbrev pub answerContract : Contract Output
+  answerContract = record { asks = answer.Reads.Asked κs answerBegin; allows = λ x. answer.Reads.Learnt κs answerBegin (x .count) (answerEnd x) }
 
 -- The contracts of functions that only this project's own crates call, all at once: `learnt` is what such a contract allows, by its arguments, the result, and the parameters at exit.
 module _ (T : Ended) (learnt : (κs : Lfts (T .signature .lifetimes)) → Args (T .signature) κs → Res (T .signature) κs → AtExit T κs → Type 0) where

@@ -14,6 +14,7 @@ use Rattle.store.specs.Fields.{reads, Written, writes}
 use Rattle.store.specs.Survey.{surveys}
 use Rattle.store.specs.declared.fields.Reading.{Reading}
 use Rattle.store.specs.declared.surveys.Surveyed.{Surveyed}
+use Rattle.report.specs.Answer.{Output, reports}
 use Rattle.demands.specs.Lent.{Lent}
 use Rattle.demands.specs.Demand1.{SetUpEnds, AllotEnds, ReadEnds, WriteEnds, SurveyEnds, CollectEnds}
 use Rattle.demands.specs.Demand1Holds.{set-up-ends, survey-ends, read-ends, write-ends}
@@ -21,7 +22,7 @@ use Rattle.demands.specs.Demand1AllotHolds.{allot-ends}
 use Rattle.demands.specs.Demand1CollectHolds.{collect-ends}
 use Rattle.demands.specs.Demand2.{Demand2}
 use Rattle.demands.specs.Demand2Holds.{demand-2}
-use Rattle.demands.specs.Sameness.{Contract, Settles, Loan, roomsContract, hxMapContract, hxStackContract, hxListContract, setUpContract, setUpEnd, collectContract, collectEnd, allotContract, readContract, readEnd, writeContract, writeEnd, surveyContract, surveyEnd}
+use Rattle.demands.specs.Sameness.{Contract, Settles, Loan, roomsContract, hxMapContract, hxStackContract, hxListContract, setUpContract, setUpEnd, collectContract, collectEnd, allotContract, readContract, readEnd, writeContract, writeEnd, surveyContract, surveyEnd, answerContract, answerEnd}
 
 -- A contract whose demands are met, and that allows just one outcome, settles it.
 settles : {A : Type 0} {contract : Contract A} {outcome : A} → contract .asks → ((x : A) → contract .allows x ↔ (x ≡ outcome)) → Settles contract outcome
@@ -129,3 +130,12 @@ module _ (κs : Lfts 1) (state : State) (list : Loan) where
   -- It leaves the list as it was lent.
   pub survey-unwritten : surveyEnd κs state list .1 .0 ≡ list
   survey-unwritten = refl
+
+module _ (κs : Lfts 2) (text out : Loan) where
+  -- The contract of the text program's `answer` allows just what its definition gives.
+  pub answer-settled : Settles (answerContract κs text out) (reports (text .now) (out .now))
+  answer-settled = named
+
+  -- It leaves the text as it was lent.
+  pub answer-unwritten : (x : Output) → answerEnd κs text out x .0 ≡ text
+  answer-unwritten x = refl

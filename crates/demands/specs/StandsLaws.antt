@@ -1,24 +1,31 @@
 -- Laws of a world that stands.
 use Prim.Native.Nat.{ℕ, _*_, _≤_}
-use mathlib.Core.Path.{_≡_}
+use mathlib.Core.Path.{_≡_, refl}
 use mathlib.Core.Bool.{true}
-use mathlib.Core.List.{List}
+use mathlib.Core.List.{List, []}
 use native.Mathlib.Omega.{arith}
 use lib.ListN.{length, take, drop, take-append-drop}
+use borrow.Author.Tests.{le-leb}
 use Rattle.words.specs.Header.{sizeAt, headerAt}
 use Rattle.words.specs.HeaderLaws.{Formed, formed, formed-same, equal-size}
 use Rattle.layout.specs.Intervals.{shown}
 use Rattle.layout.specs.Limits.{suits, listWords}
-use Rattle.layout.specs.LimitsLaws.{suits-limits}
+use Rattle.layout.specs.LimitsLaws.{suits-within, suits-limits}
 use Rattle.layout.specs.declared.State.{State}
 use Rattle.runs.specs.FreeListLaws.{list-ordered, list-fits}
 use Rattle.freelist.specs.Records.{records, validList}
 use Rattle.freelist.specs.RecordsLaws.{ordered-valid}
+use Rattle.freelist.specs.Figures.{figuresOf}
 use Rattle.split.specs.RelistedLaws.{records-shown, records-front}
+use Rattle.store.specs.Survey.{surveys}
 use Rattle.demands.specs.Reach.{Objects}
 use Rattle.demands.specs.Lent.{Lent}
-use Rattle.demands.specs.World.{World, On}
+use Rattle.demands.specs.World.{World, surveysOn, On}
 use Rattle.demands.specs.Stands.{freeOf, Stands}
+
+-- What is lent with some roots is within the limits with none.
+pub rootless : {state : State} {heap roots map stack list : List ℕ} → Lent state heap roots map stack list → Lent state heap [] map stack list
+rootless x = record { bounded = record { suit = x .bounded .suit; few = omega arith }; map-room = x .map-room; stack-room = x .stack-room; list-room = x .list-room }
 
 -- What is lent stays within the limits while no length changes, nor the heap's words and the keep length in the state.
 pub lent-still : {state state′ : State} {heap heap′ roots map map′ stack stack′ list list′ : List ℕ} → Lent state heap roots map stack list
@@ -79,3 +86,8 @@ module _ {w : World} (g : Stands w) where
   list-valid =
       ordered-valid (w .state .words) (w .state .keep) (w .state .count) (take n (w .list)) (rw (g .count) free-fits)
       (rw part-read (rw sized at (list-ordered (w .state .keep) (w .heap) (w .map) keep-some)))
+
+  -- So a survey gives its figures.
+  pub stands-surveyed : surveysOn w ≡ record { code = 0; figures = figuresOf (records (w .state .count) (w .list)) }
+  unfolding surveys
+  stands-surveyed = rw (suits-within (w .state) (w .heap) (g .lent .bounded .suit), le-leb n (length (w .list)) (g .lent .list-room), list-valid, part-read, list-read) refl

@@ -1,6 +1,5 @@
 -- How the numbers of the code and the words that it is lent stand for an image.
 use Prim.Native.Nat.{ℕ, _≤_, _<_}
-use mathlib.Core.Path.{_≡_}
 use mathlib.Core.List.{List}
 use lib.ListN.{length, take}
 use Rattle.image.specs.Image.{maxText, maxHeap, maxImageRoots, Image, Taken, on, off, Text, right, wrong}

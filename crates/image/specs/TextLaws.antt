@@ -1,10 +1,10 @@
 -- Laws of right texts: the limits that their images keep.
-use Prim.Native.Nat.{ℕ, _+_, _≤_, _<_}
-use mathlib.Core.Path.{_≡_, refl, sym, _∙_, ap, subst}
+use Prim.Native.Nat.{ℕ, _≤_}
+use mathlib.Core.Path.{_≡_, refl, subst}
 use mathlib.Core.Bool.{Bool, true, false, not, _&&_, and-eq-true-iff}
-use mathlib.Core.List.{List, [], _∷_, _++_}
+use mathlib.Core.List.{List, [], _∷_}
 use native.Mathlib.Omega.{arith}
-use lib.ListN.{length, set, replicate, length-append, length-set, length-replicate}
+use lib.ListN.{length, length-append, length-set, length-replicate}
 use lib.Dec.{leb, ltb, eqb}
 use borrow.Author.Tests.{leb-true, ltb-true, eqb-true}
 use Rattle.layout.specs.Limits.{maxKeep}

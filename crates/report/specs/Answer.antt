@@ -25,15 +25,19 @@ countLines c f =
     codeLines 0 0 ++ said (ascii "objects=") (c .objects) ++ said (ascii "live=") (c .live) ++ said (ascii "references=") (c .references) ++ said (ascii "peak=") (c .peak)
     ++ said (ascii "listed=") (f .listed) ++ said (ascii "largest=") (f .largest) ++ said (ascii "fragment=") (f .fragment)
 
--- Set-up, collection and survey of a heap, in buffers that are enough for 4,096 words with any keep length.
-unfoldable pub collected : List ℕ → ℕ → List ℕ → List ℕ
-collected heap t roots =
-    let fresh : Prepared = setsUp heap t (replicate 128 0) (replicate 8190 0) in
-    let c : Left = collects (fresh .answer .state) heap roots (fresh .map) (replicate 4095 0) (fresh .list) in
+-- Set-up, collection and survey of a heap, in lent buffers.
+unfoldable pub collectedIn : List ℕ → ℕ → List ℕ → List ℕ → List ℕ → List ℕ → List ℕ
+collectedIn heap t roots map stack list =
+    let fresh : Prepared = setsUp heap t map list in
+    let c : Left = collects (fresh .answer .state) heap roots (fresh .map) stack (fresh .list) in
     let s : Surveyed = surveys (c .answer .state) (c .list) in
     unless (eqb (c .answer .code) 0) (codeLines (c .answer .code) (c .answer .place))
     (unless (eqb (s .code) 0) (codeLines (s .code) 0)
     (countLines (c .answer) (s .figures) ++ freeLines (records (c .answer .state .count) (c .list))))
+
+-- The same in clear buffers that are enough for 4,096 words with any keep length.
+unfoldable pub collected : List ℕ → ℕ → List ℕ → List ℕ
+collected heap t roots = collectedIn heap t roots (replicate 128 0) (replicate 4095 0) (replicate 8190 0)
 
 -- The answer to a text.
 abbrev pub answerTo : Text → List ℕ
@@ -49,16 +53,16 @@ abbrev pub answerRoom : ℕ
 answerRoom = 65536
 
 -- How many bytes were written, and what the output buffer then holds.
-pub record Written : Type 0 where
+pub record Output : Type 0 where
   pub count : ℕ
   pub out : List ℕ
 
 -- Both, put together.
-abbrev pub written : ℕ → List ℕ → Written
-written count out = record { count = count; out = out }
+abbrev pub output : ℕ → List ℕ → Output
+output count out = record { count = count; out = out }
 
 -- The answer at the front of the output buffer and its length; 0 and no byte where the buffer is too short.
-unfoldable pub reports : List ℕ → List ℕ → Written
+unfoldable pub reports : List ℕ → List ℕ → Output
 reports text out =
-    unless (leb answerRoom (length out)) (written 0 out)
-    (written (length (answer text)) (answer text ++ drop (length (answer text)) out))
+    unless (leb answerRoom (length out)) (output 0 out)
+    (output (length (answer text)) (answer text ++ drop (length (answer text)) out))

@@ -1,9 +1,9 @@
 -- Laws of an answer: its ways out, and its length.
-use Prim.Native.Nat.{ℕ, zero, suc, _-_, _*_, _≤_, _<_}
+use Prim.Native.Nat.{ℕ, _-_, _*_, _≤_, _<_}
 use mathlib.Core.Path.{_≡_, refl, sym, _∙_, ap, subst}
 use mathlib.Core.Logic.{_≢_}
-use mathlib.Core.Bool.{Bool, true, _&&_}
-use mathlib.Core.List.{List, [], _∷_, _++_}
+use mathlib.Core.Bool.{_&&_}
+use mathlib.Core.List.{List, _++_}
 use native.Mathlib.Nat.{div-le-self}
 use native.Mathlib.Omega.{arith}
 use lib.ListN.{length, take, drop, replicate, length-append}
@@ -13,14 +13,13 @@ use Rattle.layout.specs.Limits.{maxRoots, within, suits, mapWords, stackWords, 
 use Rattle.layout.specs.Refusal.{unless}
 use Rattle.layout.specs.RefusalLaws.{by-test, no-refusal}
 use Rattle.layout.specs.SetUp.{Prepared, prepared, setsUp}
-use Rattle.layout.specs.declared.Interval.{Interval}
 use Rattle.layout.specs.declared.SetUp.{SetUp}
 use Rattle.layout.specs.declared.State.{State}
 use Rattle.runs.specs.Lists.{Ordered}
 use Rattle.marking.specs.Marking.{Outcome, going, done, refused, collection}
 use Rattle.collector.specs.Collect.{Left, left, settles, collectsIn, collects}
 use Rattle.collector.specs.declared.Collected.{Collected}
-use Rattle.freelist.specs.Records.{recordAt, records, validList}
+use Rattle.freelist.specs.Records.{records, validList}
 use Rattle.freelist.specs.RecordsLaws.{length-records, records-part, valid-ordered}
 use Rattle.freelist.specs.declared.figures.Figures.{Figures}
 use Rattle.store.specs.Survey.{surveys}
@@ -32,7 +31,7 @@ use Rattle.image.specs.TextLaws.{text-right}
 use Rattle.image.specs.declared.reading.Begun.{Begun}
 use Rattle.image.specs.declared.reading.Found.{Found}
 use Rattle.image.specs.declared.reading.Found.the-variants.{Right, WrongLine}
-use Rattle.report.specs.Answer.{codeLines, countLines, collected, answerTo, answer, answerRoom, Written, written, reports}
+use Rattle.report.specs.Answer.{codeLines, countLines, collectedIn, collected, answerTo, answer, answerRoom, Output, output, reports}
 use Rattle.report.specs.Printed.{freeLines}
 use Rattle.report.specs.Puts.{puts}
 use Rattle.report.specs.PutsLaws.{puts-fits}
@@ -62,19 +61,19 @@ module _ (heap : List ℕ) (t : ℕ) (roots : List ℕ) {fresh : SetUp} {map lis
     {found : Collected} {map′ stack′ list′ : List ℕ} (f : left found map′ stack′ list′ ≡ collects (fresh .state) heap roots map (replicate 4095 0) list) where
   -- A refused collection has its two lines.
   pub refuses-collection : found .code ≢ 0 → codeLines (found .code) (found .place) ≡ collected heap t roots
-  unfolding collected
+  unfolding collected collectedIn
   refuses-collection some = rw (← e, ← f, ne-eqb (found .code) 0 some)
 
   module _ (none : found .code ≡ 0) {s : Surveyed} (q : s ≡ surveys (found .state) list′) where
     -- A refused survey has two lines too.
     pub refuses-survey : s .code ≢ 0 → codeLines (s .code) 0 ≡ collected heap t roots
-    unfolding collected
+    unfolding collected collectedIn
     refuses-survey some = rw (← e, ← f, ← q, eq-eqb (found .code) 0 none, ne-eqb (s .code) 0 some)
 
     module _ (fine : s .code ≡ 0) where
       -- Else all is counted, and each interval has its line.
       pub counts-all : countLines found (s .figures) ++ freeLines (records (found .state .count) list′) ≡ collected heap t roots
-      unfolding collected
+      unfolding collected collectedIn
       counts-all = rw (← e, ← f, ← q, eq-eqb (found .code) 0 none, eq-eqb (s .code) 0 fine)
 
       -- The intervals are in the list.
@@ -136,7 +135,7 @@ lines-fit c small =
 
 -- So does the answer to an image of at most 4,096 words.
 pub collected-fits : (heap : List ℕ) (t : ℕ) (roots : List ℕ) → length heap ≤ 4096 → length (collected heap t roots) ≤ answerRoom
-unfolding collected
+unfolding collected collectedIn
 collected-fits heap t roots small =
     let fresh : Prepared = setsUp heap t (replicate 128 0) (replicate 8190 0) in
     lines-fit (collects (fresh .answer .state) heap roots (fresh .map) (replicate 4095 0) (fresh .list))
@@ -170,18 +169,18 @@ found-small told small = subst SmallFound told small
 -- The ways out, where the text was read.
 module _ (text out : List ℕ) where
   -- In too short a buffer nothing is written.
-  pub reports-short : length out < answerRoom → written 0 out ≡ reports text out
+  pub reports-short : length out < answerRoom → output 0 out ≡ reports text out
   unfolding reports
   reports-short short = rw (lt-leb answerRoom (length out) short)
 
   -- Else the lines that were written from the front on are the answer.
-  pub reports-written : answerRoom ≤ length out → {count : ℕ} {after lines : List ℕ} → written count after ≡ puts 0 lines out → lines ≡ answer text → written count after ≡ reports text out
+  pub reports-written : answerRoom ≤ length out → {count : ℕ} {after lines : List ℕ} → output count after ≡ puts 0 lines out → lines ≡ answer text → output count after ≡ reports text out
   unfolding reports
   reports-written enough e all = e ∙ ap (λ (l : List ℕ). puts 0 l out) all ∙ puts-fits (answer text) out (omega (arith, answer-fits text)) ∙ sym (rw (le-leb answerRoom (length out) enough))
 
 -- What is answered is no more than there is in the buffer.
-pub reports-inside : (text out : List ℕ) {count : ℕ} {after : List ℕ} → written count after ≡ reports text out → count ≤ length after
+pub reports-inside : (text out : List ℕ) {count : ℕ} {after : List ℕ} → output count after ≡ reports text out → count ≤ length after
 unfolding reports
 reports-inside text out e =
-    subst (λ (w : Written). w .count ≤ length (w .out)) (sym e)
-    (by-test (λ (w : Written). w .count ≤ length (w .out)) (leb answerRoom (length out)) (λ _. omega (arith, length-append (answer text) (drop (length (answer text)) out))) (λ _. omega arith))
+    subst (λ (w : Output). w .count ≤ length (w .out)) (sym e)
+    (by-test (λ (w : Output). w .count ≤ length (w .out)) (leb answerRoom (length out)) (λ _. omega (arith, length-append (answer text) (drop (length (answer text)) out))) (λ _. omega arith))

@@ -10,7 +10,7 @@ ghost use mathlib.Core.Path.{_≡_};
 ghost use Prim.Native.Nat.{_*_, _≤_};
 ghost use lib.ListN.{length};
 ghost use Rattle.freelist.specs.Records.{records};
-ghost use Rattle.report.specs.Answer.{codeLines, countLines, collected, written, reports};
+ghost use Rattle.report.specs.Answer.{codeLines, countLines, collected, output, reports};
 ghost use Rattle.report.specs.Printed.{freeLines};
 ghost use Rattle.report.specs.Puts.{puts};
 
@@ -19,7 +19,7 @@ pub const ANSWER_ROOM: usize = 65536;
 
 // The answer to a text, at the front of the output buffer, and its length; 0 and no byte where the buffer is too short.
 pub fn answer(text: &[u8], out: &mut [u8]) -> usize
-    ensures { λ r. ⌜ written r (now (out .exit)) ≡ reports (now (text .entry)) (now (out .entry)) ⌝ }
+    ensures { λ r. ⌜ output r (now (out .exit)) ≡ reports (now (text .entry)) (now (out .entry)) ⌝ }
 {
     if out.len() < ANSWER_ROOM {
         return 0;
@@ -38,7 +38,7 @@ pub fn answer(text: &[u8], out: &mut [u8]) -> usize
 
 // Sets up, collects, surveys and prints.
 fn collected(heap: &[u32], keep: usize, roots: &[u32], out: &mut [u8]) -> usize
-    ensures { λ r. ⌜ written r (now (out .exit)) ≡ puts 0 (collected (now (heap .entry)) keep (now (roots .entry))) (now (out .entry)) ⌝ }
+    ensures { λ r. ⌜ output r (now (out .exit)) ≡ puts 0 (collected (now (heap .entry)) keep (now (roots .entry))) (now (out .entry)) ⌝ }
 {
     let mut map = [0u32; 128];
     let mut stack = [0u32; 4095];
@@ -59,7 +59,7 @@ fn collected(heap: &[u32], keep: usize, roots: &[u32], out: &mut [u8]) -> usize
 
 // Prints code and where, the lines that come first.
 fn code_lines(out: &mut [u8], code: usize, place: usize) -> usize
-    ensures { λ r. ⌜ written r (now (out .exit)) ≡ puts 0 (codeLines code place) (now (out .entry)) ⌝ }
+    ensures { λ r. ⌜ output r (now (out .exit)) ≡ puts 0 (codeLines code place) (now (out .entry)) ⌝ }
 {
     let at = put::said(out, 0, b"code=", code);
     put::said(out, at, b"where=", place)
@@ -67,7 +67,7 @@ fn code_lines(out: &mut [u8], code: usize, place: usize) -> usize
 
 // Prints code and where of a success, the collection's counts and the survey's figures.
 fn count_lines(out: &mut [u8], found: Collected, figures: Figures) -> usize
-    ensures { λ r. ⌜ written r (now (out .exit)) ≡ puts 0 (countLines found figures) (now (out .entry)) ⌝ }
+    ensures { λ r. ⌜ output r (now (out .exit)) ≡ puts 0 (countLines found figures) (now (out .entry)) ⌝ }
 {
     let mut at = code_lines(out, 0, 0);
     at = put::said(out, at, b"objects=", found.objects);
@@ -82,7 +82,7 @@ fn count_lines(out: &mut [u8], found: Collected, figures: Figures) -> usize
 // Prints a line for each interval of the list.
 fn free_lines(out: &mut [u8], at: usize, list: &[u32], count: usize) -> usize
     requires { ⌜ 2 * count ≤ length (now list) ⌝ }
-    ensures { λ r. ⌜ written r (now (out .exit)) ≡ puts at (freeLines (records count (now (list .entry)))) (now (out .entry)) ⌝ }
+    ensures { λ r. ⌜ output r (now (out .exit)) ≡ puts at (freeLines (records count (now (list .entry)))) (now (out .entry)) ⌝ }
 {
     let mut at = at;
     for j in 0..count {

@@ -4,13 +4,13 @@ ghost use mathlib.Core.Path.{_≡_};
 ghost use mathlib.Core.List.{[], _∷_};
 ghost use Prim.Native.Nat.{_<_};
 ghost use lib.ListN.{length, drop};
-ghost use Rattle.report.specs.Answer.{written};
+ghost use Rattle.report.specs.Answer.{output};
 ghost use Rattle.report.specs.Printed.{decimals, said, freeLine};
 ghost use Rattle.report.specs.Puts.{puts};
 
 // One byte.
 fn byte(out: &mut [u8], at: usize, b: u8) -> usize
-    ensures { λ r. ⌜ written r (now (out .exit)) ≡ puts at (b ∷ []) (now (out .entry)) ⌝ }
+    ensures { λ r. ⌜ output r (now (out .exit)) ≡ puts at (b ∷ []) (now (out .entry)) ⌝ }
 {
     if out.len() <= at {
         return at;
@@ -21,7 +21,7 @@ fn byte(out: &mut [u8], at: usize, b: u8) -> usize
 
 // Some bytes.
 fn all(out: &mut [u8], at: usize, from: &[u8]) -> usize
-    ensures { λ r. ⌜ written r (now (out .exit)) ≡ puts at (now (from .entry)) (now (out .entry)) ⌝ }
+    ensures { λ r. ⌜ output r (now (out .exit)) ≡ puts at (now (from .entry)) (now (out .entry)) ⌝ }
 {
     let mut at = at;
     for i in 0..from.len() {
@@ -49,7 +49,7 @@ fn spell(n: usize, space: &mut [u8]) -> usize
 
 // The decimals of a number.
 fn decimals(out: &mut [u8], at: usize, n: usize) -> usize
-    ensures { λ r. ⌜ written r (now (out .exit)) ≡ puts at (decimals n) (now (out .entry)) ⌝ }
+    ensures { λ r. ⌜ output r (now (out .exit)) ≡ puts at (decimals n) (now (out .entry)) ⌝ }
 {
     let mut space = [0u8; 20];
     let from = spell(n, &mut space);
@@ -58,7 +58,7 @@ fn decimals(out: &mut [u8], at: usize, n: usize) -> usize
 
 // A line that gives a number its name.
 pub(crate) fn said(out: &mut [u8], at: usize, name: &[u8], n: usize) -> usize
-    ensures { λ r. ⌜ written r (now (out .exit)) ≡ puts at (said (now (name .entry)) n) (now (out .entry)) ⌝ }
+    ensures { λ r. ⌜ output r (now (out .exit)) ≡ puts at (said (now (name .entry)) n) (now (out .entry)) ⌝ }
 {
     let at = all(out, at, name);
     let at = decimals(out, at, n);
@@ -67,7 +67,7 @@ pub(crate) fn said(out: &mut [u8], at: usize, name: &[u8], n: usize) -> usize
 
 // The line of a listed interval.
 pub(crate) fn free(out: &mut [u8], at: usize, start: usize, size: usize) -> usize
-    ensures { λ r. ⌜ written r (now (out .exit)) ≡ puts at (freeLine (record { start = start; size = size })) (now (out .entry)) ⌝ }
+    ensures { λ r. ⌜ output r (now (out .exit)) ≡ puts at (freeLine (record { start = start; size = size })) (now (out .entry)) ⌝ }
 {
     let at = all(out, at, b"free=");
     let at = decimals(out, at, start);

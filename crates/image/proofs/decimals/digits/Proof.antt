@@ -1,5 +1,5 @@
 -- `decimals::digits`: what the number read so far makes with the bytes left is what all of them make.
-use Prim.Native.Nat.{suc, _+_, _-_, _≤_, _<_, _^_}
+use Prim.Native.Nat.{_-_, _≤_, _<_, _^_}
 use mathlib.Core.Path.{_≡_, refl, sym, _∙_}
 use native.Mathlib.Omega.{arith}
 use lib.ListN.{length, drop}

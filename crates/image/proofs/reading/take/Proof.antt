@@ -1,6 +1,5 @@
 -- `reading::take`: the key tells which case of the definition it is.
 use mathlib.Core.Path.{sym, _∙_}
-use native.Mathlib.Omega.{arith}
 use Rattle.image.specs.Ascii.{ascii}
 use Rattle.image.specs.LinesLaws.{part-behind}
 use Rattle.image.specs.ImageLaws.{starts-long, line-words, line-keep, line-root, line-word, line-other}

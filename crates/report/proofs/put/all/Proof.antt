@@ -7,14 +7,14 @@ use native.Mathlib.Omega.{arith}
 use lib.ListN.{length, take, getD}
 use lib.Seq.{take-suc, take-all}
 use borrow.Author.Needs.{needs}
-use Rattle.report.specs.Answer.{written}
+use Rattle.report.specs.Answer.{output}
 use Rattle.report.specs.Puts.{puts}
 use Rattle.report.specs.PutsLaws.{puts-then, puts-long}
 use Rattle.report.proofs.put.all.Statement.{statement}
 use Rattle.report.proofs.put.all.Tie as tie
 
 abbrev Inv-loop : tie.InvT-loop
-Inv-loop out₀ at from at₀ i₀ i-end out at′ i = (i ≤ i-end) × (written at′ out ≡ puts at (take i from) out₀)
+Inv-loop out₀ at from at₀ i₀ i-end out at′ i = (i ≤ i-end) × (output at′ out ≡ puts at (take i from) out₀)
 
 abbrev μ-loop : tie.MeasureT-loop
 μ-loop out₀ at from at₀ i₀ i-end out at′ i = i-end - i
