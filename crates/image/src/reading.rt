@@ -13,6 +13,15 @@ ghost use Prim.Native.Nat.{ℕ};
 ghost use Rattle.image.specs.Image.{maxText, maxHeap, maxImageRoots, takesWords, takesKeep, takesRoot, takesWord, starts, takesLine, textOf};
 ghost use Rattle.image.specs.Begun.{shows, showsNext, showsFound, Small, SmallNext, SmallFound, LineFits};
 
+// The most bytes of a text.
+const MAX_TEXT: usize = 60000;
+
+// The most words of an image's heap.
+const MAX_HEAP: usize = 4096;
+
+// The most roots of an image.
+const MAX_ROOTS: usize = 1024;
+
 // How many lines were read, the address that the last `word` line names, keep length, and how many roots and words there are.
 pub struct Begun {
     pub lines: usize,
@@ -59,7 +68,7 @@ fn take_words(begun: Begun, number: Number, heap: &mut [u32]) -> Next
         return Next::Off;
     };
     let words = n as usize;
-    if !((begun.lines == 0) & (1 <= words) & (words <= 4096)) {
+    if !((begun.lines == 0) & (1 <= words) & (words <= MAX_HEAP)) {
         return Next::Off;
     }
     parts::clear(&mut heap[..words]);
@@ -104,7 +113,7 @@ fn take_root(begun: Begun, number: Number, roots: &mut [u32]) -> Next
         return Next::Off;
     };
     let k = begun.roots;
-    if !((2 <= begun.lines) & (begun.last == 0) & (k < 1024)) {
+    if !((2 <= begun.lines) & (begun.last == 0) & (k < MAX_ROOTS)) {
         return Next::Off;
     }
     roots[k] = root;
@@ -168,7 +177,7 @@ pub fn read(text: &[u8], roots: &mut [u32], heap: &mut [u32]) -> Found
     ensures { λ r. ⌜ showsFound r (now (roots .exit)) (now (heap .exit)) ≡ textOf (now (text .entry)) ⌝ }
     ensures { λ r. ⌜ SmallFound r ⌝ }
 {
-    if 60000 < text.len() {
+    if MAX_TEXT < text.len() {
         return Found::WrongLine(0);
     }
     let mut begun = Begun {
