@@ -1,6 +1,6 @@
 // The text form of an image: lines, decimals, pairs, and the heap and the roots that a text stands for.
 mod decimals;
-mod lines;
+mod line;
 mod reader;
 mod reading;
 

@@ -1,5 +1,5 @@
 // A cursor over a lent text that hands out one line at a time.
-use crate::lines;
+use crate::line;
 ghost use mathlib.Core.Path.{_≡_};
 ghost use lib.ListN.{drop};
 ghost use Rattle.image.specs.Lines.{firstLine};
@@ -22,7 +22,7 @@ impl<'a> Reader<'a> {
     pub(crate) fn line(self) -> &'a [u8]
         ensures { λ r. ⌜ now r ≡ firstLine (drop (self .entry .at) (now (self .entry .text))) ⌝ }
     {
-        lines::line_at(self.text, self.at)
+        line::line_at(self.text, self.at)
     }
 }
 

@@ -1,4 +1,4 @@
--- `reader::Reader::line`, walked by hand: the cursor is taken apart, and what `lines::line_at` answers is handed back.
+-- `reader::Reader::line`, walked by hand: the cursor is taken apart, and what `line::line_at` answers is handed back.
 use Prim.Native.Nat.{ℕ, _<_, _^_}
 use mathlib.Core.Path.{_≡_, refl}
 use mathlib.Core.List.{List, [], _∷_}
@@ -40,10 +40,10 @@ use denote.Triple.Table.{entered, cited}
 use denote.Triple.Walked.{says, Stays, stay-none, walkOf, goes-none, ends-at, walked, walk-meets}
 use Rattle.image.specs.Lines.{firstLine}
 use Rattle.image.specs.declared.reader.Reader.{Reader}
-use Rattle.image.proofs.lines.line_at as line-at
-use Rattle.image.proofs.lines.line_at.Symbol as line-at-def
-use Rattle.image.proofs.lines.line_at.Symbol.{name as #image·line-at}
-use Rattle.image.proofs.lines.line_at.Met as line-at-thm
+use Rattle.image.proofs.line.line_at as line-at
+use Rattle.image.proofs.line.line_at.Symbol as line-at-def
+use Rattle.image.proofs.line.line_at.Symbol.{name as #image·line-at}
+use Rattle.image.proofs.line.line_at.Met as line-at-thm
 use Rattle.image.proofs.reader.Cursor.{lifetime, Cursor, Text, machine, token, answered}
 use Rattle.image.proofs.reader.Reader as T
 use Rattle.image.proofs.reader.Reader.Laws as T′
@@ -163,4 +163,4 @@ line-spec 𝓤 H 𝓜 𝓖 𝓡 =
     entered 𝓤 H (tripleOf 𝓤 H (𝓖 .A) line.signature (line.spec 𝓤 H (𝓖 .A) (𝓜 .mem) (𝓡 .run)))
     (tables 𝓤 H 𝓜 𝓡 code.env .C) (tables 𝓤 H 𝓜 𝓡 code.env .Λ) #image·line code.function (code.unfolded 𝓤 H 𝓜 𝓡)
     (meets 𝓤 H (𝓖 .A) (givenOf 𝓤 H 𝓜 𝓖) (𝓜 .mem) (𝓡 .run) (tablesOf 𝓤 H 𝓜 (tables 𝓤 H 𝓜 𝓡 code.env))
-    (cited 𝓤 H (tripleOf 𝓤 H (𝓖 .A) line-at.signature (line-at.spec 𝓤 H (𝓖 .A) (𝓜 .mem) (𝓡 .run))) 𝓜 𝓡 code.env #image·line-at line-at-def.routine code.calls-image·lines·line-at (line-at-thm.met 𝓤 H 𝓜 𝓖 𝓡)))
+    (cited 𝓤 H (tripleOf 𝓤 H (𝓖 .A) line-at.signature (line-at.spec 𝓤 H (𝓖 .A) (𝓜 .mem) (𝓡 .run))) 𝓜 𝓡 code.env #image·line-at line-at-def.routine code.calls-image·line·line-at (line-at-thm.met 𝓤 H 𝓜 𝓖 𝓡)))

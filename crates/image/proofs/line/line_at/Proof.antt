@@ -1,12 +1,12 @@
--- `lines::line_at`: behind the text's end there is no line, and else it is a front of the rest.
+-- `line::line_at`: behind the text's end there is no line, and else it is a front of the rest.
 use mathlib.Core.Path.{sym}
 use native.Mathlib.Omega.{arith}
 use lib.ListN.{length-drop}
 use lib.Seq.{length-take-le}
 use borrow.Author.Needs.{needs}
 use Rattle.image.specs.LinesLaws.{line-missing, line-part}
-use Rattle.image.proofs.lines.line_at.Statement.{statement}
-use Rattle.image.proofs.lines.line_at.Tie as tie
+use Rattle.image.proofs.line.line_at.Statement.{statement}
+use Rattle.image.proofs.line.line_at.Tie as tie
 
 slice-aggregate-result : tie.Need-slice-aggregate-result
 slice-aggregate-result c = search needs

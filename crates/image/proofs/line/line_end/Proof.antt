@@ -1,4 +1,4 @@
--- `lines::line_end`: the search goes just as far as an LF comes in time.
+-- `line::line_end`: the search goes just as far as an LF comes in time.
 use Prim.Native.Nat.{suc, _<_, min}
 use mathlib.Core.Path.{_≡_, sym, _∙_}
 use mathlib.Core.Logic.{inl, inr}
@@ -9,10 +9,10 @@ use Rattle.bytes.specs.Bytes.{slice, indexOf}
 use Rattle.bytes.proofs.scan.find.Reads as find-reads
 use Rattle.image.specs.Lines.{maxLine}
 use Rattle.image.specs.LinesLaws.{end-missing, end-found}
-use Rattle.image.proofs.lines.line_end.Statement.{statement}
-use Rattle.image.proofs.lines.line_end.Tie as tie
-use Rattle.image.proofs.lines.line_end.Reads as reads
-use Rattle.image.proofs.lines.line_end.Lts as lts
+use Rattle.image.proofs.line.line_end.Statement.{statement}
+use Rattle.image.proofs.line.line_end.Tie as tie
+use Rattle.image.proofs.line.line_end.Reads as reads
+use Rattle.image.proofs.line.line_end.Lts as lts
 
 add-to : tie.Need-add-to
 add-to c = search needs
