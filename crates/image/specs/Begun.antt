@@ -6,8 +6,8 @@ use Rattle.image.specs.Image.{maxText, maxHeap, maxImageRoots, Image, Ta
 use Rattle.image.specs.declared.reading.Begun.{Begun}
 use Rattle.image.specs.declared.reading.Next.{Next}
 use Rattle.image.specs.declared.reading.Next.the-variants.{On, Off}
-use Rattle.image.specs.declared.reading.Found.{Found}
-use Rattle.image.specs.declared.reading.Found.the-variants.{Right, WrongLine}
+use Rattle.image.specs.declared.reading.ReadText.{ReadText}
+use Rattle.image.specs.declared.reading.ReadText.the-variants.{Right, WrongLine}
 
 -- The image: roots and heap are the fronts of the lent words.
 abbrev pub shows : Begun → List ℕ → List ℕ → Image
@@ -19,9 +19,9 @@ showsNext (On b) roots heap = on (shows b roots heap)
 showsNext Off roots heap = off
 
 -- What a text is.
-abbrev pub showsFound : Found → List ℕ → List ℕ → Text
-showsFound (Right b) roots heap = right (shows b roots heap)
-showsFound (WrongLine n) roots heap = wrong n
+abbrev pub showsText : ReadText → List ℕ → List ℕ → Text
+showsText (Right b) roots heap = right (shows b roots heap)
+showsText (WrongLine n) roots heap = wrong n
 
 -- There are no more roots and words than an image may have.
 pub record Small (b : Begun) : Type 0 where
@@ -34,9 +34,9 @@ SmallNext (On b) = Small b
 SmallNext Off = Unit {0}
 
 -- The same of what a text is.
-abbrev pub SmallFound : Found → Type 0
-SmallFound (Right b) = Small b
-SmallFound (WrongLine n) = Unit {0}
+abbrev pub SmallText : ReadText → Type 0
+SmallText (Right b) = Small b
+SmallText (WrongLine n) = Unit {0}
 
 -- There is room for any image, and a line may follow.
 pub record LineFits (b : Begun) (roots heap : List ℕ) : Type 0 where

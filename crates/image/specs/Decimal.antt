@@ -9,7 +9,7 @@ use Rattle.layout.specs.Refusal.{unless}
 use Rattle.image.specs.declared.decimals.Number.{Number}
 use Rattle.image.specs.declared.decimals.Number.the-variants.{Is, Wrong}
 use Rattle.image.specs.declared.decimals.Pair.{Pair}
-use Rattle.image.specs.declared.decimals.Pair.the-variants.{Are, Unlike}
+use Rattle.image.specs.declared.decimals.Pair.the-variants.{Are, NoPair}
 
 -- A byte is a digit.
 unfoldable pub isDigit : ℕ → Bool
@@ -35,9 +35,9 @@ decimalOf part = unless (isPlain part) Wrong (digitsOn 0 part)
 -- Two decimals, where both are right.
 abbrev pub both : Number → Number → Pair
 both (Is a) (Is b) = Are a b
-both (Is a) Wrong = Unlike
-both Wrong (Is b) = Unlike
-both Wrong Wrong = Unlike
+both (Is a) Wrong = NoPair
+both Wrong (Is b) = NoPair
+both Wrong Wrong = NoPair
 
 -- A pair: a decimal before the first comma, and a decimal behind it.
 unfoldable pub pairOf : List ℕ → Pair

@@ -14,7 +14,7 @@ use Rattle.bytes.specs.Bytes.{indexOf, slice}
 use Rattle.image.specs.Decimal.{isDigit, digitsOn, isPlain, decimalOf, both, pairOf}
 use Rattle.image.specs.declared.decimals.Number.{Number}
 use Rattle.image.specs.declared.decimals.Number.the-variants.{Is, Wrong}
-use Rattle.image.specs.declared.decimals.Pair.the-variants.{Unlike}
+use Rattle.image.specs.declared.decimals.Pair.the-variants.{NoPair}
 
 -- No byte is no decimal.
 pub plain-none : (part : List ℕ) → length part ≡ 0 → false ≡ isPlain part
@@ -77,12 +77,12 @@ unfolding decimalOf
 decimal-read part e = rw e
 
 -- Two decimals are no pair where the first is wrong.
-pub first-wrong : (b : Number) → Unlike ≡ both Wrong b
+pub first-wrong : (b : Number) → NoPair ≡ both Wrong b
 first-wrong (Is n) = refl
 first-wrong Wrong = refl
 
 -- Nor where the second is.
-second-wrong : (a : Number) → Unlike ≡ both a Wrong
+second-wrong : (a : Number) → NoPair ≡ both a Wrong
 second-wrong (Is n) = refl
 second-wrong Wrong = refl
 
@@ -93,7 +93,7 @@ module _ (part : List ℕ) {c : ℕ} (found : c ≡ 0 + indexOf 44 (slice 0 (len
   comma = rw (found, take-length part) (omega arith)
 
   -- Without one there is no pair.
-  pub pair-refused : c ≡ length part → Unlike ≡ pairOf part
+  pub pair-refused : c ≡ length part → NoPair ≡ pairOf part
   unfolding pairOf decimalOf isPlain
   pair-refused e = rw (drop-of-length-le part {i = suc (indexOf 44 part)} (omega (arith, e, comma))) (second-wrong (decimalOf (take (indexOf 44 part) part)))
 

@@ -12,7 +12,7 @@ use Rattle.image.specs.Lines.{firstLine, linesOf}
 use Rattle.image.specs.declared.decimals.Number.{Number}
 use Rattle.image.specs.declared.decimals.Number.the-variants.{Is, Wrong}
 use Rattle.image.specs.declared.decimals.Pair.{Pair}
-use Rattle.image.specs.declared.decimals.Pair.the-variants.{Are, Unlike}
+use Rattle.image.specs.declared.decimals.Pair.the-variants.{Are, NoPair}
 
 -- The most bytes of a text.
 abbrev pub maxText : ℕ
@@ -74,7 +74,7 @@ abbrev pub takesWord : Image → Pair → Taken
 takesWord image (Are a v) =
     onIf (leb 2 (image .lines) && ltb (image .last) a && ltb a (length (image .heap)) && not (eqb v 0))
     (record { lines = image .lines + 1; last = a; keep = image .keep; roots = image .roots; heap = set (image .heap) a v })
-takesWord image Unlike = off
+takesWord image NoPair = off
 
 -- A list of bytes starts with these.
 unfoldable pub starts : List ℕ → List ℕ → Bool

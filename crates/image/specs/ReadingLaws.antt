@@ -22,61 +22,68 @@ use Rattle.image.specs.Begun.{shows, showsNext, Small, SmallNext, LineFi
 use Rattle.image.specs.declared.decimals.Number.{Number}
 use Rattle.image.specs.declared.decimals.Number.the-variants.{Is, Wrong}
 use Rattle.image.specs.declared.decimals.Pair.{Pair}
-use Rattle.image.specs.declared.decimals.Pair.the-variants.{Are, Unlike}
+use Rattle.image.specs.declared.decimals.Pair.the-variants.{Are, NoPair}
 use Rattle.image.specs.declared.reading.Begun.{Begun}
 use Rattle.image.specs.declared.reading.Next.{Next}
 use Rattle.image.specs.declared.reading.Next.the-variants.{On, Off}
 
--- What holds of each kind of line holds of any line.
-pub line-any : (Q : Taken → Type 0) (image : Image) (line : List ℕ) → ((n : Number) → Q (takesWords image n)) → ((n : Number) → Q (takesKeep image n)) → ((n : Number) → Q (takesRoot image n))
-    → ((p : Pair) → Q (takesWord image p)) → Q off → Q (takesLine image line)
+-- P holds of the image that a line has made, if the line was right.
+abbrev pub IfOn : (Image → Type 0) → Taken → Type 0
+IfOn P (on next) = P next
+IfOn P off = Unit {0}
+
+-- It is so where P holds of the image that a test lets through.
+pub if-tested : (P : Image → Type 0) (test : Bool) (next : Image) → (test ≡ true → P next) → IfOn P (onIf test next)
+unfolding onIf
+if-tested P true next k = k refl
+if-tested P false next k = tt
+
+-- It is so of any line where it is so of each kind.
+pub if-line : (P : Image → Type 0) (image : Image) (line : List ℕ) → ((n : Number) → IfOn P (takesWords image n)) → ((n : Number) → IfOn P (takesKeep image n)) → ((n : Number) → IfOn P (takesRoot image n))
+    → ((p : Pair) → IfOn P (takesWord image p)) → IfOn P (takesLine image line)
 unfolding takesLine
-line-any Q image line words keep root word other =
-    by-test Q (starts (ascii "words=") line) (λ e. words (decimalOf (drop 6 line))) (λ e.
-    by-test Q (starts (ascii "keep=") line) (λ e. keep (decimalOf (drop 5 line))) (λ e.
-    by-test Q (starts (ascii "root=") line) (λ e. root (decimalOf (drop 5 line))) (λ e.
-    by-test Q (starts (ascii "word=") line) (λ e. word (pairOf (drop 5 line))) (λ e. other))))
+if-line P image line words keep root word =
+    by-test (IfOn P) (starts (ascii "words=") line) (λ e. words (decimalOf (drop 6 line))) (λ e.
+    by-test (IfOn P) (starts (ascii "keep=") line) (λ e. keep (decimalOf (drop 5 line))) (λ e.
+    by-test (IfOn P) (starts (ascii "root=") line) (λ e. root (decimalOf (drop 5 line))) (λ e.
+    by-test (IfOn P) (starts (ascii "word=") line) (λ e. word (pairOf (drop 5 line))) (λ e. tt))))
+
+-- A line is not right and wrong.
+on≢off : {image : Image} → on image ≡ off → ⊥
+on≢off e = subst IsOn e tt
+  where
+    IsOn : Taken → Type 0
+    IsOn (on next) = Unit {0}
+    IsOn off = ⊥
 
 -- No bytes are no right line.
 none-off : (image : Image) → takesLine image [] ≡ off
 unfolding takesLine starts ascii
 none-off image = refl
 
--- A line was right.
-abbrev IsOn : Taken → Type 0
-IsOn (on next) = Unit {0}
-IsOn off = ⊥
+-- An image has at most one line more than another.
+abbrev OneMore : Image → Image → Type 0
+OneMore image next = next .lines ≤ image .lines + 1
 
--- An image after one line more has at most one line more.
-abbrev OneMore : Image → Taken → Type 0
-OneMore image (on next) = next .lines ≤ image .lines + 1
-OneMore image off = Unit {0}
-
--- It is so where it is so of the image that a test lets through.
-one-tested : (image : Image) (test : Bool) (next : Image) → (test ≡ true → next .lines ≤ image .lines + 1) → OneMore image (onIf test next)
-unfolding onIf
-one-tested image true next le = le refl
-one-tested image false next le = tt
-
--- So it is of any line.
-one-more : (image : Image) (line : List ℕ) → OneMore image (takesLine image line)
-one-more image line = line-any (OneMore image) image line words keep root word tt
+-- So has one after any line.
+one-more : (image : Image) (line : List ℕ) → IfOn (OneMore image) (takesLine image line)
+one-more image line = if-line (OneMore image) image line words keep root word
   where
-    words : (number : Number) → OneMore image (takesWords image number)
-    words (Is n) = one-tested image _ _ (λ e. le-add-left 1 (image .lines))
+    words : (number : Number) → IfOn (OneMore image) (takesWords image number)
+    words (Is n) = if-tested (OneMore image) _ _ (λ e. le-add-left 1 (image .lines))
     words Wrong = tt
 
-    keep : (number : Number) → OneMore image (takesKeep image number)
-    keep (Is n) = one-tested image (eqb (image .lines) 1 && leb 1 n && leb n maxKeep) _ (λ e. omega (arith, eqb-true (image .lines) 1 (and-eq-true-iff _ (leb 1 n) .0 (and-eq-true-iff (eqb (image .lines) 1 && leb 1 n) _ .0 e .0) .0)))
+    keep : (number : Number) → IfOn (OneMore image) (takesKeep image number)
+    keep (Is n) = if-tested (OneMore image) (eqb (image .lines) 1 && leb 1 n && leb n maxKeep) _ (λ e. omega (arith, eqb-true (image .lines) 1 (and-eq-true-iff _ (leb 1 n) .0 (and-eq-true-iff (eqb (image .lines) 1 && leb 1 n) _ .0 e .0) .0)))
     keep Wrong = tt
 
-    root : (number : Number) → OneMore image (takesRoot image number)
-    root (Is n) = one-tested image _ _ (λ e. le-refl (image .lines + 1))
+    root : (number : Number) → IfOn (OneMore image) (takesRoot image number)
+    root (Is n) = if-tested (OneMore image) _ _ (λ e. le-refl (image .lines + 1))
     root Wrong = tt
 
-    word : (pair : Pair) → OneMore image (takesWord image pair)
-    word (Are a v) = one-tested image _ _ (λ e. le-refl (image .lines + 1))
-    word Unlike = tt
+    word : (pair : Pair) → IfOn (OneMore image) (takesWord image pair)
+    word (Are a v) = if-tested (OneMore image) _ _ (λ e. le-refl (image .lines + 1))
+    word NoPair = tt
 
 -- What is known between two lines: the lines that are left decide what the text is.
 pub record Between (text roots heap : List ℕ) (b : Begun) (at : ℕ) : Type 0 where
@@ -139,7 +146,7 @@ module _ {text roots heap : List ℕ} {b : Begun} {at : ℕ} (g : Between text r
         goes = ap (takesLine (shows b roots heap)) (sym here) ∙ sym e ∙ ap (λ (n : Next). showsNext n roots′ heap′) told
 
         some : firstLine unread ≢ []
-        some none = subst IsOn (sym goes ∙ ap (takesLine (shows b roots heap)) none ∙ none-off (shows b roots heap)) tt
+        some none = on≢off (sym goes ∙ ap (takesLine (shows b roots heap)) none ∙ none-off (shows b roots heap))
 
         behind : suc (indexOf 10 unread) ≡ length line + 1
         behind = omega (arith, ap length here, line-length unread some)
@@ -151,7 +158,7 @@ module _ {text roots heap : List ℕ} {b : Begun} {at : ℕ} (g : Between text r
         -- And so it goes on.
         pub line-goes : maxImageRoots ≤ length roots′ → maxHeap ≤ length heap′ → SmallNext came → Between text roots′ heap′ next (at + (length line + 1))
         line-goes r h small =
-            let count : next .lines ≤ b .lines + 1 = subst (OneMore (shows b roots heap)) goes (one-more (shows b roots heap) (firstLine unread)) in
+            let count : next .lines ≤ b .lines + 1 = subst (IfOn (OneMore (shows b roots heap))) goes (one-more (shows b roots heap) (firstLine unread)) in
             let left-then : drop (suc (indexOf 10 unread)) unread ≡ drop (at + (length line + 1)) text = rw behind (drop-drop (length line + 1) at text) in
             record {
               inside = next-inside;

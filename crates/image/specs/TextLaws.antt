@@ -11,11 +11,11 @@ use Rattle.layout.specs.Limits.{maxKeep}
 use Rattle.layout.specs.RefusalLaws.{by-test}
 use Rattle.image.specs.Lines.{firstLine, linesOf}
 use Rattle.image.specs.Image.{maxText, maxHeap, maxImageRoots, Image, blank, Taken, on, off, onIf, takesWords, takesKeep, takesRoot, takesWord, takesLine, Text, right, wrong, orWrong, readOn, textOf}
-use Rattle.image.specs.ReadingLaws.{line-any}
+use Rattle.image.specs.ReadingLaws.{IfOn, if-tested, if-line}
 use Rattle.image.specs.declared.decimals.Number.{Number}
 use Rattle.image.specs.declared.decimals.Number.the-variants.{Is, Wrong}
 use Rattle.image.specs.declared.decimals.Pair.{Pair}
-use Rattle.image.specs.declared.decimals.Pair.the-variants.{Are, Unlike}
+use Rattle.image.specs.declared.decimals.Pair.the-variants.{Are, NoPair}
 
 -- The limits that an image keeps while it is read.
 pub record Limited (image : Image) : Type 0 where
@@ -25,51 +25,40 @@ pub record Limited (image : Image) : Type 0 where
   pub keep-least : 2 ≤ image .lines → 1 ≤ image .keep
   pub keep-most : 2 ≤ image .lines → image .keep ≤ maxKeep
 
--- The same of what one line more makes.
-abbrev LimitedOn : Taken → Type 0
-LimitedOn (on next) = Limited next
-LimitedOn off = Unit {0}
-
--- It is so where it is so of the image that a test lets through.
-limited-tested : (test : Bool) (next : Image) → (test ≡ true → Limited next) → LimitedOn (onIf test next)
-unfolding onIf
-limited-tested true next k = k refl
-limited-tested false next k = tt
-
 -- A line keeps the limits.
 module _ (image : Image) (k : Limited image) where
-  words-limited : (number : Number) → LimitedOn (takesWords image number)
-  words-limited (Is n) = limited-tested (eqb (image .lines) 0 && leb 1 n && leb n maxHeap) _ (λ e.
+  words-limited : (number : Number) → IfOn Limited (takesWords image number)
+  words-limited (Is n) = if-tested Limited (eqb (image .lines) 0 && leb 1 n && leb n maxHeap) _ (λ e.
       let x = and-eq-true-iff (eqb (image .lines) 0 && leb 1 n) _ .0 e in
       let least : 1 ≤ n = leb-true 1 n (and-eq-true-iff (eqb (image .lines) 0) _ .0 (x .0) .1) in
       let most : n ≤ maxHeap = leb-true n maxHeap (x .1) in
       record { heap-most = rw (length-replicate {A = ℕ} n 0) most; roots-most = k .roots-most; heap-least = λ _. rw (length-replicate {A = ℕ} n 0) least; keep-least = λ l. absurd (omega (arith, l)); keep-most = λ l. absurd (omega (arith, l)) })
   words-limited Wrong = tt
 
-  keep-limited : (number : Number) → LimitedOn (takesKeep image number)
-  keep-limited (Is n) = limited-tested (eqb (image .lines) 1 && leb 1 n && leb n maxKeep) _ (λ e.
+  keep-limited : (number : Number) → IfOn Limited (takesKeep image number)
+  keep-limited (Is n) = if-tested Limited (eqb (image .lines) 1 && leb 1 n && leb n maxKeep) _ (λ e.
       let x = and-eq-true-iff (eqb (image .lines) 1 && leb 1 n) _ .0 e in
       let y = and-eq-true-iff (eqb (image .lines) 1) _ .0 (x .0) in
       record { heap-most = k .heap-most; roots-most = k .roots-most; heap-least = λ _. k .heap-least (omega (arith, eqb-true (image .lines) 1 (y .0))); keep-least = λ _. leb-true 1 n (y .1); keep-most = λ _. leb-true n maxKeep (x .1) })
   keep-limited Wrong = tt
 
-  root-limited : (number : Number) → LimitedOn (takesRoot image number)
-  root-limited (Is n) = limited-tested (leb 2 (image .lines) && eqb (image .last) 0 && ltb (length (image .roots)) maxImageRoots) _ (λ e.
+  root-limited : (number : Number) → IfOn Limited (takesRoot image number)
+  root-limited (Is n) = if-tested Limited (leb 2 (image .lines) && eqb (image .last) 0 && ltb (length (image .roots)) maxImageRoots) _ (λ e.
       let x = and-eq-true-iff (leb 2 (image .lines) && eqb (image .last) 0) _ .0 e in
       let two : 2 ≤ image .lines = leb-true 2 (image .lines) (and-eq-true-iff (leb 2 (image .lines)) _ .0 (x .0) .0) in
       record { heap-most = k .heap-most; roots-most = omega (arith, length-append (image .roots) (n ∷ []), ltb-true (length (image .roots)) maxImageRoots (x .1)); heap-least = λ _. k .heap-least (omega (arith, two)); keep-least = λ _. k .keep-least two; keep-most = λ _. k .keep-most two })
   root-limited Wrong = tt
 
-  word-limited : (pair : Pair) → LimitedOn (takesWord image pair)
-  word-limited (Are a v) = limited-tested (leb 2 (image .lines) && ltb (image .last) a && ltb a (length (image .heap)) && not (eqb v 0)) _ (λ e.
+  word-limited : (pair : Pair) → IfOn Limited (takesWord image pair)
+  word-limited (Are a v) = if-tested Limited (leb 2 (image .lines) && ltb (image .last) a && ltb a (length (image .heap)) && not (eqb v 0)) _ (λ e.
       let x = and-eq-true-iff (leb 2 (image .lines) && ltb (image .last) a && ltb a (length (image .heap))) _ .0 e in
       let y = and-eq-true-iff (leb 2 (image .lines) && ltb (image .last) a) _ .0 (x .0) in
       let two : 2 ≤ image .lines = leb-true 2 (image .lines) (and-eq-true-iff (leb 2 (image .lines)) _ .0 (y .0) .0) in
       record { heap-most = rw (length-set (image .heap) a v) (k .heap-most); roots-most = k .roots-most; heap-least = λ _. rw (length-set (image .heap) a v) (k .heap-least (omega (arith, two))); keep-least = λ _. k .keep-least two; keep-most = λ _. k .keep-most two })
-  word-limited Unlike = tt
+  word-limited NoPair = tt
 
-  line-limited : (line : List ℕ) → LimitedOn (takesLine image line)
-  line-limited line = line-any LimitedOn image line words-limited keep-limited root-limited word-limited tt
+  line-limited : (line : List ℕ) → IfOn Limited (takesLine image line)
+  line-limited line = if-line Limited image line words-limited keep-limited root-limited word-limited
 
 -- What a text is, if it is right, keeps the limits, and had its first two lines.
 abbrev LimitedText : Text → Type 0
@@ -77,7 +66,7 @@ LimitedText (right image) = Limited image × (2 ≤ image .lines)
 LimitedText (wrong line) = Unit {0}
 
 -- It does so if it does so of the image that one line more makes.
-limited-next : (n : ℕ) (next : Image → Text) (t : Taken) → LimitedOn t → ((image : Image) → Limited image → LimitedText (next image)) → LimitedText (orWrong n next t)
+limited-next : (n : ℕ) (next : Image → Text) (t : Taken) → IfOn Limited t → ((image : Image) → Limited image → LimitedText (next image)) → LimitedText (orWrong n next t)
 limited-next n next (on image) l rest = rest image l
 limited-next n next off l rest = tt
 

@@ -12,7 +12,7 @@ pub(crate) enum Number {
 // What a pair is: two numbers, or no pair.
 pub(crate) enum Pair {
     Are(u32, u32),
-    Unlike,
+    NoPair,
 }
 
 // Whether there is a byte, and the first is no leading zero.
@@ -68,10 +68,10 @@ fn two(a: Number, b: Number) -> Pair
     ensures { λ r. ⌜ r ≡ both a b ⌝ }
 {
     let Number::Is(x) = a else {
-        return Pair::Unlike;
+        return Pair::NoPair;
     };
     let Number::Is(y) = b else {
-        return Pair::Unlike;
+        return Pair::NoPair;
     };
     Pair::Are(x, y)
 }
@@ -83,7 +83,7 @@ pub(crate) fn pair_of(part: &[u8]) -> Pair
     let n = part.len();
     let comma = scan::find(part, 0, n, b',');
     if comma == n {
-        return Pair::Unlike;
+        return Pair::NoPair;
     }
     two(decimal_of(&part[..comma]), decimal_of(&part[comma + 1..]))
 }

@@ -5,5 +5,5 @@ mod reader;
 mod reading;
 
 pub use reading::Begun;
-pub use reading::Found;
+pub use reading::ReadText;
 pub use reading::read;

@@ -22,7 +22,7 @@ fn line_end(text: &[u8]) -> usize
 }
 
 // The line at a place of a text, without its LF; an empty one where no LF ends it in time.
-pub(crate) fn line_at(text: &[u8], at: usize) -> &[u8]
+pub(crate) fn line_in(text: &[u8], at: usize) -> &[u8]
     ensures { λ r. ⌜ now r ≡ firstLine (drop at (now (text .entry))) ⌝ }
 {
     if text.len() < at {

@@ -22,7 +22,7 @@ impl<'a> Reader<'a> {
     pub(crate) fn line(self) -> &'a [u8]
         ensures { λ r. ⌜ now r ≡ firstLine (drop (self .entry .at) (now (self .entry .text))) ⌝ }
     {
-        line::line_at(self.text, self.at)
+        line::line_in(self.text, self.at)
     }
 }
 

@@ -11,7 +11,7 @@ ghost use mathlib.Core.List.{List};
 ghost use lib.ListN.{length};
 ghost use Prim.Native.Nat.{ℕ};
 ghost use Rattle.image.specs.Image.{maxText, maxHeap, maxImageRoots, takesWords, takesKeep, takesRoot, takesWord, starts, takesLine, textOf};
-ghost use Rattle.image.specs.Begun.{shows, showsNext, showsFound, Small, SmallNext, SmallFound, LineFits};
+ghost use Rattle.image.specs.Begun.{shows, showsNext, showsText, Small, SmallNext, SmallText, LineFits};
 
 // The most bytes of a text.
 const MAX_TEXT: usize = 60000;
@@ -20,7 +20,7 @@ const MAX_TEXT: usize = 60000;
 const MAX_HEAP: usize = 4096;
 
 // The most roots of an image.
-const MAX_ROOTS: usize = 1024;
+const MAX_IMAGE_ROOTS: usize = 1024;
 
 // How many lines were read, the address that the last `word` line names, keep length, and how many roots and words there are.
 pub struct Begun {
@@ -38,7 +38,7 @@ pub(crate) enum Next {
 }
 
 // What a text is: an image, or wrong, with the number of its first wrong line.
-pub enum Found {
+pub enum ReadText {
     Right(Begun),
     WrongLine(usize),
 }
@@ -113,7 +113,7 @@ fn take_root(begun: Begun, number: Number, roots: &mut [u32]) -> Next
         return Next::Off;
     };
     let k = begun.roots;
-    if !((2 <= begun.lines) & (begun.last == 0) & (k < MAX_ROOTS)) {
+    if !((2 <= begun.lines) & (begun.last == 0) & (k < MAX_IMAGE_ROOTS)) {
         return Next::Off;
     }
     roots[k] = root;
@@ -172,13 +172,13 @@ fn take(begun: Begun, line: &[u8], roots: &mut [u32], heap: &mut [u32]) -> Next
 }
 
 // The image of a text, or the number of its first wrong line.
-pub fn read(text: &[u8], roots: &mut [u32], heap: &mut [u32]) -> Found
+pub fn read(text: &[u8], roots: &mut [u32], heap: &mut [u32]) -> ReadText
     requires { ⌜ (maxImageRoots ≤ length (now roots)) × (maxHeap ≤ length (now heap)) ⌝ }
-    ensures { λ r. ⌜ showsFound r (now (roots .exit)) (now (heap .exit)) ≡ textOf (now (text .entry)) ⌝ }
-    ensures { λ r. ⌜ SmallFound r ⌝ }
+    ensures { λ r. ⌜ showsText r (now (roots .exit)) (now (heap .exit)) ≡ textOf (now (text .entry)) ⌝ }
+    ensures { λ r. ⌜ SmallText r ⌝ }
 {
     if MAX_TEXT < text.len() {
-        return Found::WrongLine(0);
+        return ReadText::WrongLine(0);
     }
     let mut begun = Begun {
         lines: 0,
@@ -191,13 +191,13 @@ pub fn read(text: &[u8], roots: &mut [u32], heap: &mut [u32]) -> Found
     while at < text.len() {
         let line = reader::line_from(text, at);
         let Next::On(more) = take(begun, line, roots, heap) else {
-            return Found::WrongLine(begun.lines + 1);
+            return ReadText::WrongLine(begun.lines + 1);
         };
         begun = more;
         at += line.len() + 1;
     }
     if begun.lines < 2 {
-        return Found::WrongLine(begun.lines + 1);
+        return ReadText::WrongLine(begun.lines + 1);
     }
-    Found::Right(begun)
+    ReadText::Right(begun)
 }

@@ -25,12 +25,12 @@ use Rattle.freelist.specs.declared.figures.Figures.{Figures}
 use Rattle.store.specs.Survey.{surveys}
 use Rattle.store.specs.declared.surveys.Surveyed.{Surveyed}
 use Rattle.image.specs.Ascii.{ascii}
-use Rattle.image.specs.Begun.{showsFound, Small, SmallFound}
+use Rattle.image.specs.Begun.{showsText, Small, SmallText}
 use Rattle.image.specs.Image.{Text, right, wrong, textOf}
 use Rattle.image.specs.TextLaws.{text-right}
 use Rattle.image.specs.declared.reading.Begun.{Begun}
-use Rattle.image.specs.declared.reading.Found.{Found}
-use Rattle.image.specs.declared.reading.Found.the-variants.{Right, WrongLine}
+use Rattle.image.specs.declared.reading.ReadText.{ReadText}
+use Rattle.image.specs.declared.reading.ReadText.the-variants.{Right, WrongLine}
 use Rattle.report.specs.Answer.{codeLines, countLines, collectedIn, collected, answerTo, answer, answerRoom, Output, output, reports}
 use Rattle.report.specs.Printed.{freeLines}
 use Rattle.report.specs.Puts.{puts}
@@ -151,20 +151,20 @@ answer-fits text = go (textOf text) refl
     go (wrong line) e = code-fits 12 line
 
 -- What reading a text has found tells its answer.
-module _ (text roots heap : List ℕ) {found : Found} (e : showsFound found roots heap ≡ textOf text) where
+module _ (text roots heap : List ℕ) {found : ReadText} (e : showsText found roots heap ≡ textOf text) where
   -- A wrong line has its number printed.
   pub answer-wrong : {line : ℕ} → found ≡ WrongLine line → codeLines 12 line ≡ answer text
   unfolding answer
-  answer-wrong told = ap answerTo (ap (λ (f : Found). showsFound f roots heap) (sym told) ∙ e)
+  answer-wrong told = ap answerTo (ap (λ (f : ReadText). showsText f roots heap) (sym told) ∙ e)
 
   -- An image is collected.
   pub answer-right : {b : Begun} → found ≡ Right b → collected (take (b .words) heap) (b .keep) (take (b .roots) roots) ≡ answer text
   unfolding answer
-  answer-right told = ap answerTo (ap (λ (f : Found). showsFound f roots heap) (sym told) ∙ e)
+  answer-right told = ap answerTo (ap (λ (f : ReadText). showsText f roots heap) (sym told) ∙ e)
 
 -- An image that was found has no more words and roots than there is room for.
-pub found-small : {found : Found} {b : Begun} → found ≡ Right b → SmallFound found → Small b
-found-small told small = subst SmallFound told small
+pub found-small : {found : ReadText} {b : Begun} → found ≡ Right b → SmallText found → Small b
+found-small told small = subst SmallText told small
 
 -- The ways out, where the text was read.
 module _ (text out : List ℕ) where

@@ -4,7 +4,7 @@ mod put;
 use collector::Collected;
 use freelist::Figures;
 use freelist::records;
-use image::Found;
+use image::ReadText;
 use layout::State;
 ghost use mathlib.Core.Path.{_≡_};
 ghost use Prim.Native.Nat.{_*_, _≤_};
@@ -27,8 +27,8 @@ pub fn answer(text: &[u8], out: &mut [u8]) -> usize
     let mut roots = [0u32; 1024];
     let mut heap = [0u32; 4096];
     match image::read(text, &mut roots, &mut heap) {
-        Found::WrongLine(line) => code_lines(out, 12, line),
-        Found::Right(begun) => {
+        ReadText::WrongLine(line) => code_lines(out, 12, line),
+        ReadText::Right(begun) => {
             let n = begun.roots;
             let h = begun.words;
             collected(&heap[..h], begun.keep, &roots[..n], out)

@@ -55,11 +55,11 @@ abbrev Made : RefT (List ℕ) → ℕ → Reader → Type 0
 Made s n r = (r .text ≡ s) × (r .at ≡ n)
 
 -- What `line` says of the line.
-abbrev Found : Reader → RefT (List ℕ) → Type 0
-Found r t = now t ≡ firstLine (drop (r .at) (now (r .text)))
+abbrev Handed : Reader → RefT (List ℕ) → Type 0
+Handed r t = now t ≡ firstLine (drop (r .at) (now (r .text)))
 
 -- So the line is the one that the contract names.
-same : (s : RefT (List ℕ)) (n : ℕ) (r : Reader) (t : RefT (List ℕ)) → Made s n r → Found r t → now t ≡ firstLine (drop n (now s))
+same : (s : RefT (List ℕ)) (n : ℕ) (r : Reader) (t : RefT (List ℕ)) → Made s n r → Handed r t → now t ≡ firstLine (drop n (now s))
 same s n r t made found = cc
 
 module _ {M : Type 1} (𝓤 : URA M) (H : Heap 𝓤) (A : Atoms 𝓤) (W : Given 𝓤 H A) (mem : Memory → SProp 𝓤) (run : Routine → Fun 𝓤) (𝓣 : Tables 𝓤 H) where
@@ -140,7 +140,7 @@ module _ {M : Type 1} (𝓤 : URA M) (H : Heap 𝓤) (A : Atoms 𝓤) (W : Given
           answered ! tt κ q (Cursor (κ, tt)) (Made s n) u (lasts new.ended (κ, tt) (s, (n, tt))) (id⊢ 𝓤 _) (λ r made is′.
           land ! (from ! (stop !)) (init ! 3 refl (LL.lawful (T.the-type unnamed) (T′.the-laws unnamed) 𝓤 H A W .typed r _ is′ .0)) $ use2 W (raw (Line .pre (that r u))) (asked-next r u) $
           calls-at ! (fmOf 𝓤 H (W .laws) 𝓣) Line known-line (that r u) (and-then ! (load ! (from ! (stop !)) (look ! 2 refl)) (no-more !)) (λ u′.
-          answered ! tt κ q (Text κ) (Found r) u′ (lasts line.ended (κ, tt) (r, tt)) (id⊢ 𝓤 _) (λ t found is″.
+          answered ! tt κ q (Text κ) (Handed r) u′ (lasts line.ended (κ, tt) (r, tt)) (id⊢ 𝓤 _) (λ t found is″.
           land ! (from ! (stop !)) (init ! 9 refl (shr-slice-lawful 𝓤 H A W (named 0) κ u8 .typed t (u′ ∷ []) is″ .0)) $
           returns ! (look ! 9 refl) $ forget ! 3 refl $ forget ! 5 refl $ forget ! 7 refl $ forget ! 9 refl $
           move ! (9 ∷ 10 ∷ []) $ free1 ! $ move ! (7 ∷ 8 ∷ []) $ free1 ! $ move ! (5 ∷ 6 ∷ []) $ free1 ! $ move ! (3 ∷ 4 ∷ []) $ free1 ! $ free0 ! $ by ! (exits t u′ (same s n r t made found))))))))))

@@ -1,4 +1,4 @@
--- `reader::Reader::line`, walked by hand: the cursor is taken apart, and what `line::line_at` answers is handed back.
+-- `reader::Reader::line`, walked by hand: the cursor is taken apart, and what `line::line_in` answers is handed back.
 use Prim.Native.Nat.{ℕ, _<_, _^_}
 use mathlib.Core.Path.{_≡_, refl}
 use mathlib.Core.List.{List, [], _∷_}
@@ -40,10 +40,10 @@ use denote.Triple.Table.{entered, cited}
 use denote.Triple.Walked.{says, Stays, stay-none, walkOf, goes-none, ends-at, walked, walk-meets}
 use Rattle.image.specs.Lines.{firstLine}
 use Rattle.image.specs.declared.reader.Reader.{Reader}
-use Rattle.image.proofs.line.line_at as line-at
-use Rattle.image.proofs.line.line_at.Symbol as line-at-def
-use Rattle.image.proofs.line.line_at.Symbol.{name as #image·line-at}
-use Rattle.image.proofs.line.line_at.Met as line-at-thm
+use Rattle.image.proofs.line.line_in as line-in
+use Rattle.image.proofs.line.line_in.Symbol as line-in-def
+use Rattle.image.proofs.line.line_in.Symbol.{name as #image·line-in}
+use Rattle.image.proofs.line.line_in.Met as line-in-thm
 use Rattle.image.proofs.reader.Cursor.{lifetime, Cursor, Text, machine, token, answered}
 use Rattle.image.proofs.reader.Reader as T
 use Rattle.image.proofs.reader.Reader.Laws as T′
@@ -67,9 +67,9 @@ module _ {M : Type 1} (𝓤 : URA M) (H : Heap 𝓤) (A : Atoms 𝓤) (W : Given
 
   -- The contract of the function that is called.
   abbrev LineAt : Contract 𝓤
-  LineAt = tripleOf 𝓤 H A line-at.signature (line-at.spec 𝓤 H A mem run)
+  LineAt = tripleOf 𝓤 H A line-in.signature (line-in.spec 𝓤 H A mem run)
 
-  module _ (known : Triple 𝓤 (𝓣 .C #image·line-at) LineAt) where
+  module _ (known : Triple 𝓤 (𝓣 .C #image·line-in) LineAt) where
     module _ (κ : Lft) (q : Share) (d : Reader) (typed : Holds (hasTy (T′.mir (named 0)) (T′.lowered d)) × WT (T′.lowered d)) where
       -- The machine value of the cursor.
       abbrev mach : Val
@@ -108,7 +108,7 @@ module _ {M : Type 1} (𝓤 : URA M) (H : Heap 𝓤) (A : Atoms 𝓤) (W : Given
       fields = (d .text, (d .at, tt))
 
       -- Their machine values.
-      abbrev passed : Vals line-at.signature (κ, tt)
+      abbrev passed : Vals line-in.signature (κ, tt)
       passed = (machine (d .text) ∷ [], (vint w64 (d .at) ∷ [], tt))
 
       -- The call that is made.
@@ -116,7 +116,7 @@ module _ {M : Type 1} (𝓤 : URA M) (H : Heap 𝓤) (A : Atoms 𝓤) (W : Given
       that = (((κ, tt), (q, tt), tt, (d .text, (d .at, tt)), passed), tt)
 
       -- The token, with what text and place own, is what the call asks.
-      asked : ent 𝓤 (onEntry 𝓤 H A line-at.signature (κ, tt) (q, tt) (d .text, (d .at, tt)) passed) (LineAt .pre that)
+      asked : ent 𝓤 (onEntry 𝓤 H A line-in.signature (κ, tt) (q, tt) (d .text, (d .at, tt)) passed) (LineAt .pre that)
       asked = qed W (token κ q ∷ ‵ (owns (Text κ ∷ usize ∷ []) (d .text, (d .at, tt)) passed) ∷ []) ∵ join ! $ frame ! $ done !
 
       -- What the cursor owns is had twice: one is kept, and of the other the text's part goes to the call.
@@ -142,7 +142,7 @@ module _ {M : Type 1} (𝓤 : URA M) (H : Heap 𝓤) (A : Atoms 𝓤) (W : Given
           assigns ! (of-opd ! (load ! (from ! (fld ! refl (stop !))) (look-in ! 4 (sub ! 1 refl (whole !))))) (from ! (stop !)) (init ! 0 refl (tt, typed .1 .1 .0)) $
           move ! (8 ∷ []) $ use1 W (raw (LineAt .pre that) ⊛ ‵ Own) (apart (typed .1 .1 .0 .fits)) $ split ! $
           calls-at ! (fmOf 𝓤 H (W .laws) 𝓣) LineAt known that (and-then ! (load ! (from ! (stop !)) (look ! 4 refl)) (and-then ! (load ! (from ! (stop !)) (look ! 2 refl)) (no-more !))) (λ u.
-          answered ! tt κ q (Text κ) (λ r. now r ≡ wanted) u (lasts line-at.ended (κ, tt) (d .text, (d .at, tt))) (id⊢ 𝓤 _) (λ r e is.
+          answered ! tt κ q (Text κ) (λ r. now r ≡ wanted) u (lasts line-in.ended (κ, tt) (d .text, (d .at, tt))) (id⊢ 𝓤 _) (λ r e is.
           land ! (from ! (stop !)) (init ! 9 refl (shr-slice-lawful 𝓤 H A W (named 0) κ u8 .typed r (u ∷ []) is .0)) $
           returns ! (look ! 9 refl) $ forget ! 3 refl $ forget ! 5 refl $ forget ! 7 refl $ forget ! 9 refl $
           move ! (9 ∷ 10 ∷ []) $ free1 ! $ move ! (7 ∷ 8 ∷ []) $ free1 ! $ move ! (5 ∷ 6 ∷ []) $ free1 ! $ move ! (3 ∷ 4 ∷ []) $ free1 ! $ free0 ! $ by ! (exits r u e)))))))
@@ -163,4 +163,4 @@ line-spec 𝓤 H 𝓜 𝓖 𝓡 =
     entered 𝓤 H (tripleOf 𝓤 H (𝓖 .A) line.signature (line.spec 𝓤 H (𝓖 .A) (𝓜 .mem) (𝓡 .run)))
     (tables 𝓤 H 𝓜 𝓡 code.env .C) (tables 𝓤 H 𝓜 𝓡 code.env .Λ) #image·line code.function (code.unfolded 𝓤 H 𝓜 𝓡)
     (meets 𝓤 H (𝓖 .A) (givenOf 𝓤 H 𝓜 𝓖) (𝓜 .mem) (𝓡 .run) (tablesOf 𝓤 H 𝓜 (tables 𝓤 H 𝓜 𝓡 code.env))
-    (cited 𝓤 H (tripleOf 𝓤 H (𝓖 .A) line-at.signature (line-at.spec 𝓤 H (𝓖 .A) (𝓜 .mem) (𝓡 .run))) 𝓜 𝓡 code.env #image·line-at line-at-def.routine code.calls-image·line·line-at (line-at-thm.met 𝓤 H 𝓜 𝓖 𝓡)))
+    (cited 𝓤 H (tripleOf 𝓤 H (𝓖 .A) line-in.signature (line-in.spec 𝓤 H (𝓖 .A) (𝓜 .mem) (𝓡 .run))) 𝓜 𝓡 code.env #image·line-in line-in-def.routine code.calls-image·line·line-in (line-in-thm.met 𝓤 H 𝓜 𝓖 𝓡)))

@@ -1,12 +1,12 @@
--- `line::line_at`: behind the text's end there is no line, and else it is a front of the rest.
+-- `line::line_in`: behind the text's end there is no line, and else it is a front of the rest.
 use mathlib.Core.Path.{sym}
 use native.Mathlib.Omega.{arith}
 use lib.ListN.{length-drop}
 use lib.Seq.{length-take-le}
 use borrow.Author.Needs.{needs}
 use Rattle.image.specs.LinesLaws.{line-missing, line-part}
-use Rattle.image.proofs.line.line_at.Statement.{statement}
-use Rattle.image.proofs.line.line_at.Tie as tie
+use Rattle.image.proofs.line.line_in.Statement.{statement}
+use Rattle.image.proofs.line.line_in.Tie as tie
 
 slice-aggregate-result : tie.Need-slice-aggregate-result
 slice-aggregate-result c = search needs
@@ -32,8 +32,8 @@ slice-aggregate-result-2 c = sym (length-take-le _ _ (c .before .line-end .ensur
 returns-2 : tie.Need-returns-2
 returns-2 c = line-part (c .before .before .before .before .before .args .text .now) (c .before .before .before .before .before .args .at) (c .before .line-end .ensures .1)
 
-pub line-at-spec : {M : Type 1} → statement M
-line-at-spec =
+pub line-in-spec : {M : Type 1} → statement M
+line-in-spec =
     tie.close
     (tie.spec
     slice-aggregate-result
