@@ -9,7 +9,7 @@ import time
 
 from texts import EXAMPLE, all_cases, answer
 
-NAMES = ["the example of the rules", "P4", "P6", "P9 refused", "P11 without roots", "nothing", "one LF", "one NUL", "words alone",
+CHOSEN = ["the example of the rules", "P4", "P6", "P9 refused", "P11 without roots", "nothing", "one LF", "one NUL", "words alone",
          "no LF behind line 6", "CR LF all through", "a NUL line at 4", "the longest right lines", "1024 roots and a word",
          "1025 roots", "5000 digits", "60000 bytes", "60001 bytes, a digit more"]
 SIZES = [1, 7, 4096, 2**20]
@@ -35,7 +35,7 @@ def ran(command, text, size):
 
 def main(command):
     cases = all_cases()
-    texts = {name: cases[name] for name in NAMES}
+    texts = {name: cases[name] for name in CHOSEN}
     texts["60000 bytes and a line more"] = cases["60000 bytes"] + b"word=4095,1\n"
     texts["60000 LF"] = b"\n" * 60000
     texts["60000 digits"] = b"7" * 60000

@@ -5,19 +5,21 @@ use mathlib.Core.Bool.{Bool, true, false, _&&_, and-eq-true-iff}
 use mathlib.Core.List.{List, _++_}
 use lib.ListN.{length, take, drop, replicate}
 use lib.Seq.{length-take-le}
-use lib.Dec.{leb}
+use lib.Dec.{leb, lit<}
 use borrow.Author.Tests.{leb-true}
 use Rattle.layout.specs.Intervals.{shown}
-use Rattle.layout.specs.Limits.{maxRoots, listWords, roomsOf}
+use Rattle.layout.specs.Limits.{maxRoots, suits, mapWords, stackWords, listWords, roomsOf}
 use Rattle.layout.specs.LimitsLaws.{limits, two-fit, suitsBy, Suited, suits-tells, suited}
+use Rattle.layout.specs.RefusalLaws.{no-refusal}
 use Rattle.layout.specs.SetUp.{firstList}
 use Rattle.layout.specs.declared.Rooms.{Rooms}
 use Rattle.layout.specs.declared.State.{State}
+use Rattle.marking.specs.Marking.{Outcome, going, done, refused, collection}
 use Rattle.machine.specs.Machine.{Fit, Begun, Ran}
 use Rattle.machine.specs.declared.Progress.{Progress}
 use Rattle.machine.specs.declared.Ended.{Ended}
 use Rattle.machine.specs.declared.Ended.the-variants.{Done, Refused}
-use Rattle.collector.specs.Collect.{left, collectRefused, collectsIn, collects, Parts}
+use Rattle.collector.specs.Collect.{Left, left, collectRefused, settles, collectsIn, collects, Parts}
 use Rattle.collector.specs.declared.Collected.{Collected}
 
 -- A collection in the needed parts.
@@ -97,3 +99,19 @@ module _ (state : State) (heap roots map stack list : List ℕ) {rooms : Rooms} 
           → left a (map′ ++ drop (rooms .map) map) (stack′ ++ drop (rooms .stack) stack) (list′ ++ drop (rooms .list) list) ≡ collects state heap roots map stack list
       unfolding collects
       accepts q = rw (← suits-tells state heap e, test, ← ok .map-room, ← ok .stack-room, ← ok .list-room, long, ← q) refl
+
+-- What a collection leaves in the needed parts goes with a state of the heap's words.
+settles-words : (heap : List ℕ) (t : ℕ) (o : Outcome) → settles heap t o .answer .state .words ≡ length heap
+settles-words heap t (going m) = refl
+settles-words heap t (done m) = refl
+settles-words heap t (refused code place) = refl
+
+-- So does what a collection leaves that ends with 0.
+pub collects-words : (state : State) (heap roots map stack list : List ℕ) → let c : Left = collects state heap roots map stack list in c .answer .code ≡ 0 → c .answer .state .words ≡ length heap
+unfolding collects collectsIn
+collects-words state heap roots map stack list e =
+    let h : ℕ = state .words in
+    let t : ℕ = state .keep in
+    let x = no-refusal (λ (l : Left). l .answer .code) (suits state heap && leb (length roots) maxRoots) _ _ (lit< tt) e in
+    let y = no-refusal (λ (l : Left). l .answer .code) (leb (mapWords h) (length map) && leb (stackWords h t) (length stack) && leb (listWords h t) (length list)) _ _ (lit< tt) (x .1) in
+    rw (x .0, y .0) (settles-words heap t (collection heap t roots))

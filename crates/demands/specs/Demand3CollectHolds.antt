@@ -2,7 +2,8 @@
 use Prim.Native.Nat.{ℕ}
 use mathlib.Core.Path.{_≡_, refl, sym, ap, _∙_}
 use mathlib.Core.Logic.{_↔_, inl, inr}
-use mathlib.Core.List.{List}
+use mathlib.Core.List.{List, []}
+use native.Mathlib.Omega.{arith}
 use lib.ListN.{length}
 use Rattle.words.specs.HeaderLaws.{formed}
 use Rattle.words.specs.Map.{covered}
@@ -21,7 +22,7 @@ use Rattle.demands.specs.Demand2Holds.{demand-2}
 use Rattle.demands.specs.World.{World, collect, collectsOn, after, On, effect}
 use Rattle.demands.specs.History.{Rooted}
 use Rattle.demands.specs.Stands.{Stands}
-use Rattle.demands.specs.StandsLaws.{rootless, lent-still, objects-same, on-formed}
+use Rattle.demands.specs.StandsLaws.{rerooted, lent-still, objects-same, on-formed}
 
 -- A collection of what is sound, within the limits.
 module _ {w : World} {roots : List ℕ} (lent : Lent (w .state) (w .heap) roots (w .map) (w .stack) (w .list)) (sound : Sound (w .heap) (w .state .keep) roots) where
@@ -62,7 +63,7 @@ module _ {w : World} {roots : List ℕ} (lent : Lent (w .state) (w .heap) roots 
       let out : Left = collectsOn w roots in
       let s : Succeeded (w .state) (w .stack) out = ends .succeeds sound-succeeds in
       record {
-        lent = lent-still (rootless lent) (s .words) (s .keep) refl (ends .keeps-map .long) (ends .keeps-stack .long) (ends .keeps-list .long);
+        lent = lent-still (rerooted lent [] (omega arith)) (s .words) (s .keep) refl (ends .keeps-map .long) (ends .keeps-stack .long) (ends .keeps-list .long);
         bits = λ a e. f .starts a .1 (f .bits a .0 e);
         objects = rw (s .keep) (objects-same (w .heap) (w .heap) refl (λ a p. refl) (λ a e. f .starts a .0 e) sound);
         named = λ a k e has some. let p = f .starts a .0 e in f .starts _ .1 (by-field p (sound .formed a p) (field-member (formed (w .heap) (w .state .keep) a (sound .formed a p)) k has) some);
@@ -82,9 +83,7 @@ module _ {w : World} (g : Stands w) {roots : List ℕ} (rooted : Rooted w roots)
 
   -- All that is lent is within the limits.
   is-lent : Lent (w .state) (w .heap) roots (w .map) (w .stack) (w .list)
-  is-lent =
-      let x = g .lent in
-      record { bounded = record { suit = x .bounded .suit; few = rooted .few }; map-room = x .map-room; stack-room = x .stack-room; list-room = x .list-room }
+  is-lent = rerooted (g .lent) roots (rooted .few)
 
   -- So it succeeds,
   pub collect-succeeds : collectsOn w roots .answer .code ≡ 0

@@ -2,14 +2,14 @@
 use Prim.Native.Nat.{ℕ, _*_, _≤_}
 use mathlib.Core.Path.{_≡_, refl}
 use mathlib.Core.Bool.{true}
-use mathlib.Core.List.{List, []}
+use mathlib.Core.List.{List}
 use native.Mathlib.Omega.{arith}
 use lib.ListN.{length, take, drop, take-append-drop}
 use borrow.Author.Tests.{le-leb}
 use Rattle.words.specs.Header.{sizeAt, headerAt}
 use Rattle.words.specs.HeaderLaws.{Formed, formed, formed-same, equal-size}
 use Rattle.layout.specs.Intervals.{shown}
-use Rattle.layout.specs.Limits.{suits, listWords}
+use Rattle.layout.specs.Limits.{maxRoots, suits, listWords}
 use Rattle.layout.specs.LimitsLaws.{suits-within, suits-limits}
 use Rattle.layout.specs.declared.State.{State}
 use Rattle.runs.specs.FreeListLaws.{list-ordered, list-fits}
@@ -23,9 +23,9 @@ use Rattle.demands.specs.Lent.{Lent}
 use Rattle.demands.specs.World.{World, surveysOn, On}
 use Rattle.demands.specs.Stands.{freeOf, Stands}
 
--- What is lent with some roots is within the limits with none.
-pub rootless : {state : State} {heap roots map stack list : List ℕ} → Lent state heap roots map stack list → Lent state heap [] map stack list
-rootless x = record { bounded = record { suit = x .bounded .suit; few = omega arith }; map-room = x .map-room; stack-room = x .stack-room; list-room = x .list-room }
+-- What is lent is within the limits with any other roots that are not too many.
+pub rerooted : {state : State} {heap roots map stack list : List ℕ} → Lent state heap roots map stack list → (other : List ℕ) → length other ≤ maxRoots → Lent state heap other map stack list
+rerooted x other few = record { bounded = record { suit = x .bounded .suit; few = few }; map-room = x .map-room; stack-room = x .stack-room; list-room = x .list-room }
 
 -- What is lent stays within the limits while no length changes, nor the heap's words and the keep length in the state.
 pub lent-still : {state state′ : State} {heap heap′ roots map map′ stack stack′ list list′ : List ℕ} → Lent state heap roots map stack list

@@ -46,13 +46,17 @@ printings =
     prints "words=0\nkeep=2\n" "code=12\nwhere=1\n" ∷
     prints "words=4097\nkeep=2\n" "code=12\nwhere=1\n" ∷
     prints "words=16\nkeep=65536\n" "code=12\nwhere=2\n" ∷
-    -- An address 0, H, twice; a value 0; no comma.
+    prints "words=16\nkeep=0\n" "code=12\nwhere=2\n" ∷
+    -- An address 0, H, twice; a value 0; no comma, and two.
     prints "words=16\nkeep=2\nword=0,1\n" "code=12\nwhere=3\n" ∷
     prints "words=16\nkeep=2\nword=16,1\n" "code=12\nwhere=3\n" ∷
     prints "words=16\nkeep=2\nword=3,1\nword=3,1\n" "code=12\nwhere=4\n" ∷
     prints "words=16\nkeep=2\nword=3,0\n" "code=12\nwhere=3\n" ∷
     prints "words=16\nkeep=2\nword=3\n" "code=12\nwhere=3\n" ∷
-    -- Lines in another order.
+    prints "words=16\nkeep=2\nword=3,1,1\n" "code=12\nwhere=3\n" ∷
+    -- Lines in another order, or twice.
     prints "keep=2\nwords=16\n" "code=12\nwhere=1\n" ∷
+    prints "words=16\nwords=16\nkeep=2\n" "code=12\nwhere=2\n" ∷
+    prints "words=16\nkeep=2\nkeep=2\n" "code=12\nwhere=3\n" ∷
     prints "words=16\nkeep=2\nword=3,1\nroot=1\n" "code=12\nwhere=4\n" ∷
     []

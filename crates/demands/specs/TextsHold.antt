@@ -19,14 +19,14 @@ use Rattle.image.specs.Decimal.{isDigit, digitsOn, isPlain, decimalOf, pairOf}
 use Rattle.image.specs.Lines.{firstLine, linesOf}
 use Rattle.image.specs.Image.{onIf, starts, takesLine, readOn, textOf}
 use Rattle.report.specs.Printed.{spelled, freeLines}
-use Rattle.report.specs.Answer.{countLines, collectedIn, collected, answer}
+use Rattle.report.specs.Answer.{countLines, linesAfter, imageLinesIn, imageLines, answer}
 use Rattle.demands.specs.Texts.{Printing, printings}
 
 -- Every text in the table is answered with the bytes that are expected.
 pub printings-hold : map (λ (p : Printing). answer (ascii (p .given))) printings ≡ map (λ (p : Printing). ascii (p .printed)) printings
 unfolding
     printings ascii answer textOf readOn linesOf firstLine indexOf indexAfter takesLine starts onIf
-    decimalOf isPlain digitsOn isDigit pairOf collected collectedIn countLines freeLines spelled
+    decimalOf isPlain digitsOn isDigit pairOf imageLines imageLinesIn linesAfter countLines freeLines spelled
     setsUp firstList within suits mapWords stackWords listRoom listWords flat shown
     collects collectsIn collection begin run move meet marked overlaps
     freeList runs runsFrom kept sizeAt refsAt headerWord wellFormed fieldsOf bitAt setBit isStart someBelow covered

@@ -5,7 +5,8 @@ pub mod Decimal
 pub mod DecimalLaws
 pub mod Image
 pub mod ImageLaws
-pub mod Begun
-pub mod BegunLaws
+pub mod SoFar
+pub mod SoFarLaws
 pub mod ReadingLaws
+pub mod Limited
 pub mod TextLaws

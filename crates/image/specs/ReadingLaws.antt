@@ -18,12 +18,12 @@ use Rattle.image.specs.Decimal.{decimalOf, pairOf}
 use Rattle.image.specs.Lines.{firstLine, linesOf}
 use Rattle.image.specs.LinesLaws.{line-length, line-inside, line-alone, lines-next}
 use Rattle.image.specs.Image.{maxText, maxHeap, maxImageRoots, Image, Taken, on, off, onIf, takesWords, takesKeep, takesRoot, takesWord, starts, takesLine, right, wrong, orWrong, readOn, textOf}
-use Rattle.image.specs.Begun.{shows, showsNext, Small, SmallNext, LineFits}
+use Rattle.image.specs.SoFar.{shows, showsNext, Small, SmallNext, LineFits}
 use Rattle.image.specs.declared.decimals.Number.{Number}
 use Rattle.image.specs.declared.decimals.Number.the-variants.{Is, Wrong}
 use Rattle.image.specs.declared.decimals.Pair.{Pair}
 use Rattle.image.specs.declared.decimals.Pair.the-variants.{Are, NoPair}
-use Rattle.image.specs.declared.reading.Begun.{Begun}
+use Rattle.image.specs.declared.reading.SoFar.{SoFar}
 use Rattle.image.specs.declared.reading.Next.{Next}
 use Rattle.image.specs.declared.reading.Next.the-variants.{On, Off}
 
@@ -86,7 +86,7 @@ one-more image line = if-line (OneMore image) image line words keep root word
     word NoPair = tt
 
 -- What is known between two lines: the lines that are left decide what the text is.
-pub record Between (text roots heap : List ℕ) (b : Begun) (at : ℕ) : Type 0 where
+pub record Between (text roots heap : List ℕ) (b : SoFar) (at : ℕ) : Type 0 where
   pub inside : at ≤ length text
   pub short : length text ≤ maxText
   pub lines-in : b .lines ≤ at
@@ -107,7 +107,7 @@ unfolding textOf
 text-begins text roots heap short r h =
     record { inside = omega arith; short = short; lines-in = omega arith; root-room = r; word-room = h; small = record { roots-in = omega arith; words-in = omega arith }; rest = rw (le-leb (length text) maxText short) }
 
-module _ {text roots heap : List ℕ} {b : Begun} {at : ℕ} (g : Between text roots heap b at) where
+module _ {text roots heap : List ℕ} {b : SoFar} {at : ℕ} (g : Between text roots heap b at) where
   -- At the end two lines at least were read, or one is missing.
   pub text-missing : length text ≤ at → b .lines < 2 → wrong (b .lines + 1) ≡ textOf text
   unfolding readOn linesOf
@@ -141,7 +141,7 @@ module _ {text roots heap : List ℕ} {b : Begun} {at : ℕ} (g : Between text r
           sym (line-first ∙ ap (orWrong (b .lines + 1) _) is-off) ∙ g .rest
 
       -- Any other is ended by an LF.
-      module _ {came : Next} {next : Begun} (told : came ≡ On next) (roots′ heap′ : List ℕ) (e : showsNext came roots′ heap′ ≡ takesLine (shows b roots heap) line) where
+      module _ {came : Next} {next : SoFar} (told : came ≡ On next) (roots′ heap′ : List ℕ) (e : showsNext came roots′ heap′ ≡ takesLine (shows b roots heap) line) where
         goes : takesLine (shows b roots heap) (firstLine unread) ≡ on (shows next roots′ heap′)
         goes = ap (takesLine (shows b roots heap)) (sym here) ∙ sym e ∙ ap (λ (n : Next). showsNext n roots′ heap′) told
 

@@ -1,7 +1,7 @@
 -- Laws of right texts: the limits that their images keep.
 use Prim.Native.Nat.{ℕ, _≤_}
-use mathlib.Core.Path.{_≡_, refl, subst}
-use mathlib.Core.Bool.{Bool, true, false, not, _&&_, and-eq-true-iff}
+use mathlib.Core.Path.{_≡_, subst}
+use mathlib.Core.Bool.{not, _&&_, and-eq-true-iff}
 use mathlib.Core.List.{List, [], _∷_}
 use native.Mathlib.Omega.{arith}
 use lib.ListN.{length, length-append, length-set, length-replicate}
@@ -10,20 +10,13 @@ use borrow.Author.Tests.{leb-true, ltb-true, eqb-true}
 use Rattle.layout.specs.Limits.{maxKeep}
 use Rattle.layout.specs.RefusalLaws.{by-test}
 use Rattle.image.specs.Lines.{firstLine, linesOf}
-use Rattle.image.specs.Image.{maxText, maxHeap, maxImageRoots, Image, blank, Taken, on, off, onIf, takesWords, takesKeep, takesRoot, takesWord, takesLine, Text, right, wrong, orWrong, readOn, textOf}
+use Rattle.image.specs.Image.{maxText, maxHeap, maxImageRoots, Image, blank, Taken, on, off, takesWords, takesKeep, takesRoot, takesWord, takesLine, Text, right, wrong, orWrong, readOn, textOf}
+use Rattle.image.specs.Limited.{Limited}
 use Rattle.image.specs.ReadingLaws.{IfOn, if-tested, if-line}
 use Rattle.image.specs.declared.decimals.Number.{Number}
 use Rattle.image.specs.declared.decimals.Number.the-variants.{Is, Wrong}
 use Rattle.image.specs.declared.decimals.Pair.{Pair}
 use Rattle.image.specs.declared.decimals.Pair.the-variants.{Are, NoPair}
-
--- The limits that an image keeps while it is read.
-pub record Limited (image : Image) : Type 0 where
-  pub heap-most : length (image .heap) ≤ maxHeap
-  pub roots-most : length (image .roots) ≤ maxImageRoots
-  pub heap-least : 1 ≤ image .lines → 1 ≤ length (image .heap)
-  pub keep-least : 2 ≤ image .lines → 1 ≤ image .keep
-  pub keep-most : 2 ≤ image .lines → image .keep ≤ maxKeep
 
 -- A line keeps the limits.
 module _ (image : Image) (k : Limited image) where
@@ -82,17 +75,6 @@ unfolding textOf
 text-limited text =
     by-test LimitedText (leb (length text) maxText) (λ e. read-limited blank (record { heap-most = omega arith; roots-most = omega arith; heap-least = λ l. absurd (omega (arith, l)); keep-least = λ l. absurd (omega (arith, l)); keep-most = λ l. absurd (omega (arith, l)) }) (linesOf text)) (λ e. tt)
 
--- The image of a right text is within the limits of an image.
-pub record InLimits (image : Image) : Type 0 where
-  pub some : 1 ≤ length (image .heap)
-  pub words : length (image .heap) ≤ maxHeap
-  pub keeps : 1 ≤ image .keep
-  pub keep : image .keep ≤ maxKeep
-  pub few : length (image .roots) ≤ maxImageRoots
-
--- So it is.
-pub text-right : (text : List ℕ) (image : Image) → textOf text ≡ right image → InLimits image
-text-right text image e =
-    let k : LimitedText (right image) = subst LimitedText e (text-limited text) in
-    let l : Limited image = k .0 in
-    record { some = l .heap-least (omega (arith, k .1)); words = l .heap-most; keeps = l .keep-least (k .1); keep = l .keep-most (k .1); few = l .roots-most }
+-- The image of a right text keeps them, and its two first lines were there.
+pub text-right : (text : List ℕ) (image : Image) → textOf text ≡ right image → Limited image × (2 ≤ image .lines)
+text-right text image e = subst LimitedText e (text-limited text)

@@ -4,7 +4,7 @@ ghost use mathlib.Core.Path.{_≡_};
 ghost use Rattle.image.specs.Decimal.{isDigit, isPlain, digitsOn, decimalOf, both, pairOf};
 
 // What a decimal is: a number, or wrong.
-pub(crate) enum Number {
+pub enum Number {
     Is(u32),
     Wrong,
 }

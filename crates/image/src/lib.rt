@@ -4,6 +4,6 @@ mod line;
 mod reader;
 mod reading;
 
-pub use reading::Begun;
 pub use reading::ReadText;
+pub use reading::SoFar;
 pub use reading::read;

@@ -11,7 +11,7 @@ ghost use mathlib.Core.List.{List};
 ghost use lib.ListN.{length};
 ghost use Prim.Native.Nat.{ℕ};
 ghost use Rattle.image.specs.Image.{maxText, maxHeap, maxImageRoots, takesWords, takesKeep, takesRoot, takesWord, starts, takesLine, textOf};
-ghost use Rattle.image.specs.Begun.{shows, showsNext, showsText, Small, SmallNext, SmallText, LineFits};
+ghost use Rattle.image.specs.SoFar.{shows, showsNext, showsText, Small, SmallNext, SmallText, LineFits};
 
 // The most bytes of a text.
 const MAX_TEXT: usize = 60000;
@@ -23,7 +23,7 @@ const MAX_HEAP: usize = 4096;
 const MAX_IMAGE_ROOTS: usize = 1024;
 
 // How many lines were read, the address that the last `word` line names, keep length, and how many roots and words there are.
-pub struct Begun {
+pub struct SoFar {
     pub lines: usize,
     pub last: usize,
     pub keep: usize,
@@ -33,13 +33,13 @@ pub struct Begun {
 
 // What one line more makes: more was read, or the line is wrong where it stands.
 pub(crate) enum Next {
-    On(Begun),
+    On(SoFar),
     Off,
 }
 
 // What a text is: an image, or wrong, with the number of its first wrong line.
 pub enum ReadText {
-    Right(Begun),
+    Right(SoFar),
     WrongLine(usize),
 }
 
@@ -59,114 +59,114 @@ fn starts(line: &[u8], key: &[u8]) -> bool
 }
 
 // The `words` line: so many words, all 0.
-fn take_words(begun: Begun, number: Number, heap: &mut [u32]) -> Next
-    requires { ⌜ (maxHeap ≤ length (now heap)) × Small begun ⌝ }
-    ensures { λ r. ⌜ ((roots : List ℕ) → showsNext r roots (now (heap .exit)) ≡ takesWords (shows begun roots (now (heap .entry))) number) ⌝ }
+fn take_words(got: SoFar, number: Number, heap: &mut [u32]) -> Next
+    requires { ⌜ (maxHeap ≤ length (now heap)) × Small got ⌝ }
+    ensures { λ r. ⌜ ((roots : List ℕ) → showsNext r roots (now (heap .exit)) ≡ takesWords (shows got roots (now (heap .entry))) number) ⌝ }
     ensures { λ r. ⌜ SmallNext r ⌝ }
 {
     let Number::Is(n) = number else {
         return Next::Off;
     };
     let words = n as usize;
-    if !((begun.lines == 0) & (1 <= words) & (words <= MAX_HEAP)) {
+    if !((got.lines == 0) & (1 <= words) & (words <= MAX_HEAP)) {
         return Next::Off;
     }
     parts::clear(&mut heap[..words]);
-    Next::On(Begun {
+    Next::On(SoFar {
         lines: 1,
-        last: begun.last,
-        keep: begun.keep,
-        roots: begun.roots,
+        last: got.last,
+        keep: got.keep,
+        roots: got.roots,
         words,
     })
 }
 
 // The `keep` line.
-fn take_keep(begun: Begun, number: Number) -> Next
-    requires { ⌜ Small begun ⌝ }
-    ensures { λ r. ⌜ ((roots heap : List ℕ) → showsNext r roots heap ≡ takesKeep (shows begun roots heap) number) ⌝ }
+fn take_keep(got: SoFar, number: Number) -> Next
+    requires { ⌜ Small got ⌝ }
+    ensures { λ r. ⌜ ((roots heap : List ℕ) → showsNext r roots heap ≡ takesKeep (shows got roots heap) number) ⌝ }
     ensures { λ r. ⌜ SmallNext r ⌝ }
 {
     let Number::Is(n) = number else {
         return Next::Off;
     };
     let keep = n as usize;
-    if !((begun.lines == 1) & (1 <= keep) & (keep <= State::MAX_KEEP)) {
+    if !((got.lines == 1) & (1 <= keep) & (keep <= State::MAX_KEEP)) {
         return Next::Off;
     }
-    Next::On(Begun {
+    Next::On(SoFar {
         lines: 2,
-        last: begun.last,
+        last: got.last,
         keep,
-        roots: begun.roots,
-        words: begun.words,
+        roots: got.roots,
+        words: got.words,
     })
 }
 
 // A `root` line.
-fn take_root(begun: Begun, number: Number, roots: &mut [u32]) -> Next
-    requires { ⌜ (begun .lines < maxText) × (maxImageRoots ≤ length (now roots)) × Small begun ⌝ }
-    ensures { λ r. ⌜ ((heap : List ℕ) → showsNext r (now (roots .exit)) heap ≡ takesRoot (shows begun (now (roots .entry)) heap) number) ⌝ }
+fn take_root(got: SoFar, number: Number, roots: &mut [u32]) -> Next
+    requires { ⌜ (got .lines < maxText) × (maxImageRoots ≤ length (now roots)) × Small got ⌝ }
+    ensures { λ r. ⌜ ((heap : List ℕ) → showsNext r (now (roots .exit)) heap ≡ takesRoot (shows got (now (roots .entry)) heap) number) ⌝ }
     ensures { λ r. ⌜ SmallNext r ⌝ }
 {
     let Number::Is(root) = number else {
         return Next::Off;
     };
-    let k = begun.roots;
-    if !((2 <= begun.lines) & (begun.last == 0) & (k < MAX_IMAGE_ROOTS)) {
+    let k = got.roots;
+    if !((2 <= got.lines) & (got.last == 0) & (k < MAX_IMAGE_ROOTS)) {
         return Next::Off;
     }
     roots[k] = root;
-    Next::On(Begun {
-        lines: begun.lines + 1,
+    Next::On(SoFar {
+        lines: got.lines + 1,
         last: 0,
-        keep: begun.keep,
+        keep: got.keep,
         roots: k + 1,
-        words: begun.words,
+        words: got.words,
     })
 }
 
 // A `word` line.
-fn take_word(begun: Begun, pair: Pair, heap: &mut [u32]) -> Next
-    requires { ⌜ (begun .lines < maxText) × (maxHeap ≤ length (now heap)) × Small begun ⌝ }
-    ensures { λ r. ⌜ ((roots : List ℕ) → showsNext r roots (now (heap .exit)) ≡ takesWord (shows begun roots (now (heap .entry))) pair) ⌝ }
+fn take_word(got: SoFar, pair: Pair, heap: &mut [u32]) -> Next
+    requires { ⌜ (got .lines < maxText) × (maxHeap ≤ length (now heap)) × Small got ⌝ }
+    ensures { λ r. ⌜ ((roots : List ℕ) → showsNext r roots (now (heap .exit)) ≡ takesWord (shows got roots (now (heap .entry))) pair) ⌝ }
     ensures { λ r. ⌜ SmallNext r ⌝ }
 {
     let Pair::Are(address, value) = pair else {
         return Next::Off;
     };
     let a = address as usize;
-    if !((2 <= begun.lines) & (begun.last < a) & (a < begun.words) & (value != 0)) {
+    if !((2 <= got.lines) & (got.last < a) & (a < got.words) & (value != 0)) {
         return Next::Off;
     }
     heap[a] = value;
-    Next::On(Begun {
-        lines: begun.lines + 1,
+    Next::On(SoFar {
+        lines: got.lines + 1,
         last: a,
-        keep: begun.keep,
-        roots: begun.roots,
-        words: begun.words,
+        keep: got.keep,
+        roots: got.roots,
+        words: got.words,
     })
 }
 
 // One line more: its key says what the part after the equals sign is.
-fn take(begun: Begun, line: &[u8], roots: &mut [u32], heap: &mut [u32]) -> Next
-    requires { ⌜ LineFits begun (now roots) (now heap) ⌝ }
+fn take(got: SoFar, line: &[u8], roots: &mut [u32], heap: &mut [u32]) -> Next
+    requires { ⌜ LineFits got (now roots) (now heap) ⌝ }
     ensures { λ r.
-        ⌜ showsNext r (now (roots .exit)) (now (heap .exit)) ≡ takesLine (shows begun (now (roots .entry)) (now (heap .entry))) (now (line .entry)) ⌝ }
+        ⌜ showsNext r (now (roots .exit)) (now (heap .exit)) ≡ takesLine (shows got (now (roots .entry)) (now (heap .entry))) (now (line .entry)) ⌝ }
     ensures { λ r. ⌜ SmallNext r ⌝ }
 {
     if starts(line, b"words=") {
-        return take_words(begun, decimals::decimal_of(&line[6..]), heap);
+        return take_words(got, decimals::decimal_of(&line[6..]), heap);
     }
     if starts(line, b"keep=") {
-        return take_keep(begun, decimals::decimal_of(&line[5..]));
+        return take_keep(got, decimals::decimal_of(&line[5..]));
     }
     if starts(line, b"root=") {
-        return take_root(begun, decimals::decimal_of(&line[5..]), roots);
+        return take_root(got, decimals::decimal_of(&line[5..]), roots);
     }
     if starts(line, b"word=") {
-        return take_word(begun, decimals::pair_of(&line[5..]), heap);
+        return take_word(got, decimals::pair_of(&line[5..]), heap);
     }
     Next::Off
 }
@@ -180,7 +180,7 @@ pub fn read(text: &[u8], roots: &mut [u32], heap: &mut [u32]) -> ReadText
     if MAX_TEXT < text.len() {
         return ReadText::WrongLine(0);
     }
-    let mut begun = Begun {
+    let mut got = SoFar {
         lines: 0,
         last: 0,
         keep: 0,
@@ -190,14 +190,14 @@ pub fn read(text: &[u8], roots: &mut [u32], heap: &mut [u32]) -> ReadText
     let mut at = 0;
     while at < text.len() {
         let line = reader::line_from(text, at);
-        let Next::On(more) = take(begun, line, roots, heap) else {
-            return ReadText::WrongLine(begun.lines + 1);
+        let Next::On(more) = take(got, line, roots, heap) else {
+            return ReadText::WrongLine(got.lines + 1);
         };
-        begun = more;
+        got = more;
         at += line.len() + 1;
     }
-    if begun.lines < 2 {
-        return ReadText::WrongLine(begun.lines + 1);
+    if got.lines < 2 {
+        return ReadText::WrongLine(got.lines + 1);
     }
-    ReadText::Right(begun)
+    ReadText::Right(got)
 }

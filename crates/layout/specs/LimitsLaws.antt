@@ -123,6 +123,11 @@ two-fit {m} {n} map list e =
     let x = and-eq-true-iff (leb m (length map)) _ .0 e in
     (leb-true m (length map) (x .0), leb-true n (length list) (x .1))
 
+-- A list of a heap of h words has room for fewer than h intervals.
+pub list-small : (h t : ℕ) → listWords h t ≤ 2 * (h - 1)
+unfolding listWords listRoom stackWords
+list-small h t = omega (arith, div-le-self (h - 1) t)
+
 -- A map of the needed length has a word for each bit of the heap.
 pub bit-inside : (h a : ℕ) → a < h → a / 32 < mapWords h
 unfolding mapWords

@@ -25,23 +25,39 @@ countLines c f =
     codeLines 0 0 ++ said (ascii "objects=") (c .objects) ++ said (ascii "live=") (c .live) ++ said (ascii "references=") (c .references) ++ said (ascii "peak=") (c .peak)
     ++ said (ascii "listed=") (f .listed) ++ said (ascii "largest=") (f .largest) ++ said (ascii "fragment=") (f .fragment)
 
--- Set-up, collection and survey of a heap, in lent buffers.
-unfoldable pub collectedIn : List ℕ → ℕ → List ℕ → List ℕ → List ℕ → List ℕ → List ℕ
-collectedIn heap t roots map stack list =
-    let fresh : Prepared = setsUp heap t map list in
-    let c : Left = collects (fresh .answer .state) heap roots (fresh .map) stack (fresh .list) in
+-- What is printed once a collection has answered: a refusal, or the counts, the figures of a survey, and the free list.
+unfoldable pub linesAfter : Left → List ℕ
+linesAfter c =
     let s : Surveyed = surveys (c .answer .state) (c .list) in
     unless (eqb (c .answer .code) 0) (codeLines (c .answer .code) (c .answer .place))
     (unless (eqb (s .code) 0) (codeLines (s .code) 0)
     (countLines (c .answer) (s .figures) ++ freeLines (records (c .answer .state .count) (c .list))))
 
--- The same in clear buffers that are enough for 4,096 words with any keep length.
-unfoldable pub collected : List ℕ → ℕ → List ℕ → List ℕ
-collected heap t roots = collectedIn heap t roots (replicate 128 0) (replicate 4095 0) (replicate 8190 0)
+-- What is printed for an image: set-up and collection in lent buffers, and then a survey.
+unfoldable pub imageLinesIn : List ℕ → ℕ → List ℕ → List ℕ → List ℕ → List ℕ → List ℕ
+imageLinesIn heap t roots map stack list =
+    let fresh : Prepared = setsUp heap t map list in
+    linesAfter (collects (fresh .answer .state) heap roots (fresh .map) stack (fresh .list))
+
+-- The program's map, clear, and long enough for 4,096 words.
+abbrev pub clearMap : List ℕ
+clearMap = replicate 128 0
+
+-- The program's stack, clear, and long enough for 4,096 words with any keep length.
+abbrev pub clearStack : List ℕ
+clearStack = replicate 4095 0
+
+-- The program's list, likewise.
+abbrev pub clearList : List ℕ
+clearList = replicate 8190 0
+
+-- What the program prints for an image.
+unfoldable pub imageLines : List ℕ → ℕ → List ℕ → List ℕ
+imageLines heap t roots = imageLinesIn heap t roots clearMap clearStack clearList
 
 -- The answer to a text.
 abbrev pub answerTo : Text → List ℕ
-answerTo (right image) = collected (image .heap) (image .keep) (image .roots)
+answerTo (right image) = imageLines (image .heap) (image .keep) (image .roots)
 answerTo (wrong line) = codeLines 12 line
 
 -- The whole answer: from the input's bytes to the output's.

@@ -3,4 +3,5 @@ pub mod Answer
 pub mod Puts
 pub mod PutsLaws
 pub mod PrintedLaws
+pub mod DecimalsHold
 pub mod AnswerLaws

@@ -10,7 +10,7 @@ ghost use mathlib.Core.Path.{_≡_};
 ghost use Prim.Native.Nat.{_*_, _≤_};
 ghost use lib.ListN.{length};
 ghost use Rattle.freelist.specs.Records.{records};
-ghost use Rattle.report.specs.Answer.{codeLines, countLines, collected, output, reports};
+ghost use Rattle.report.specs.Answer.{codeLines, countLines, imageLines, output, reports};
 ghost use Rattle.report.specs.Printed.{freeLines};
 ghost use Rattle.report.specs.Puts.{puts};
 
@@ -28,17 +28,17 @@ pub fn answer(text: &[u8], out: &mut [u8]) -> usize
     let mut heap = [0u32; 4096];
     match image::read(text, &mut roots, &mut heap) {
         ReadText::WrongLine(line) => code_lines(out, 12, line),
-        ReadText::Right(begun) => {
-            let n = begun.roots;
-            let h = begun.words;
-            collected(&heap[..h], begun.keep, &roots[..n], out)
+        ReadText::Right(got) => {
+            let n = got.roots;
+            let h = got.words;
+            image_lines(&heap[..h], got.keep, &roots[..n], out)
         }
     }
 }
 
-// Sets up, collects, surveys and prints.
-fn collected(heap: &[u32], keep: usize, roots: &[u32], out: &mut [u8]) -> usize
-    ensures { λ r. ⌜ output r (now (out .exit)) ≡ puts 0 (collected (now (heap .entry)) keep (now (roots .entry))) (now (out .entry)) ⌝ }
+// Sets up, collects, surveys, and prints what was found.
+fn image_lines(heap: &[u32], keep: usize, roots: &[u32], out: &mut [u8]) -> usize
+    ensures { λ r. ⌜ output r (now (out .exit)) ≡ puts 0 (imageLines (now (heap .entry)) keep (now (roots .entry))) (now (out .entry)) ⌝ }
 {
     let mut map = [0u32; 128];
     let mut stack = [0u32; 4095];

@@ -7,17 +7,20 @@ use mathlib.Core.List.{List}
 use native.Mathlib.Omega.{arith}
 use lib.ListN.{length, take}
 use lib.Seq.{length-take-le}
-use borrow.Author.Tests.{le-leb, lt-leb}
-use Rattle.layout.specs.Limits.{listWords, roomsOf}
+use lib.Dec.{leb, lit<}
+use borrow.Author.Tests.{le-leb, lt-leb, leb-true}
+use Rattle.layout.specs.Limits.{within, listWords, roomsOf}
 use Rattle.layout.specs.LimitsLaws.{limits, map-zero, allowed, list-needs}
+use Rattle.layout.specs.RefusalLaws.{no-refusal}
 use Rattle.layout.specs.declared.Rooms.{Rooms}
 use Rattle.layout.specs.declared.State.{State}
-use Rattle.runs.specs.Lists.{listed}
+use Rattle.runs.specs.Lists.{listed, Ordered}
 use Rattle.runs.specs.SumLaws.{ordered-listed}
 use Rattle.freelist.specs.Figures.{figuresOf}
 use Rattle.freelist.specs.Records.{records, validList}
-use Rattle.freelist.specs.RecordsLaws.{valid-ordered}
+use Rattle.freelist.specs.RecordsLaws.{records-part, valid-ordered}
 use Rattle.freelist.specs.declared.figures.Figures.{Figures}
+use Rattle.store.specs.declared.surveys.Surveyed.{Surveyed}
 use Rattle.store.specs.Survey.{surveyRefused, surveys}
 
 -- The ways out, where the room figures are worked out.
@@ -60,3 +63,22 @@ module _ (state : State) (list : List ℕ) {rooms : Rooms} (e : rooms ≡ roomsO
           pub survey-figures : {f : Figures} → f ≡ figuresOf (records (state .count) part) → record { code = 0; figures = f } ≡ surveys state list
           unfolding surveys
           survey-figures q = rw (allowed (state .words) (state .keep) e some, ← room, le-leb (rooms .list) (length list) long, ← v, good, q)
+
+-- What a survey that is not refused tells of a state and its list.
+pub record Surveyable (state : State) (list : List ℕ) : Type 0 where
+  pub room : 2 * state .count ≤ listWords (state .words) (state .keep)
+  pub long : listWords (state .words) (state .keep) ≤ length list
+  pub order : Ordered (state .keep) 1 (state .words) 1 (records (state .count) list)
+
+-- Its three tests tell it.
+pub surveyable : (state : State) (list : List ℕ) → surveys state list .code ≡ 0 → Surveyable state list
+unfolding surveys
+surveyable state list e =
+    let h : ℕ = state .words in
+    let t : ℕ = state .keep in
+    let n : ℕ = listWords h t in
+    let x = no-refusal (λ (s : Surveyed). s .code) (within h t) _ _ (lit< tt) e in
+    let y = no-refusal (λ (s : Surveyed). s .code) (leb n (length list)) _ _ (lit< tt) (x .1) in
+    let z = no-refusal (λ (s : Surveyed). s .code) (validList h t (state .count) (take n list)) _ _ (lit< tt) (y .1) in
+    let o = valid-ordered h t (state .count) (take n list) (z .0) in
+    record { room = o .0; long = leb-true n (length list) (y .0); order = rw (records-part (state .count) n list (o .0)) at (o .1) }

@@ -1,5 +1,6 @@
 // An answer for each text. Before a text stands a line that gives its length in bytes and its name.
 use libc::STDOUT_FILENO;
+use report::ANSWER_ROOM;
 ghost use Prim.Native.Nat.{_≤_};
 ghost use lib.ListN.{length};
 
@@ -32,7 +33,7 @@ fn show(out: &[u8], m: usize)
 
 // One text, answered in a buffer that was full of 7s.
 fn trial(text: &[u8]) {
-    let mut out = [7u8; 65536];
+    let mut out = [7u8; ANSWER_ROOM];
     let m = report::answer(text, &mut out);
     show(&out, m);
 }
@@ -60,7 +61,7 @@ pub(crate) fn all(input: &[u8]) {
 
 // A buffer that is a byte too short for an answer: prints the length answered, and whether all bytes were kept.
 pub(crate) fn short() {
-    let mut out = [7u8; 65535];
+    let mut out = [7u8; ANSWER_ROOM - 1];
     let m = report::answer(b"words=1\nkeep=1\n", &mut out);
     io::write_all(STDOUT_FILENO, b"short");
     lines::gave(&[m]);

@@ -1,4 +1,4 @@
--- `answer`: the text is an image that is collected, or wrong, and what is written is the definition's answer.
+-- `answer`: the text is an image that is image-lines, or wrong, and what is written is the definition's answer.
 use mathlib.Core.Path.{sym}
 use native.Mathlib.Omega.{arith}
 use lib.Seq.{length-take-le}
@@ -25,23 +25,23 @@ enum-known-line c = search needs
 code-lines-requires : tie.Need-code-lines-requires
 code-lines-requires c κs = search needs
 
-enum-known-begun : tie.Need-enum-known-begun
-enum-known-begun c = search needs
+enum-known-got : tie.Need-enum-known-got
+enum-known-got c = search needs
 
 array-share-prefix-heap : tie.Need-array-share-prefix-heap
-array-share-prefix-heap c = let small = found-small (c .before .begun .given .1) (c .before .before .before .before .before .read .ensures .1) in omega (arith, small .words-in, c .before .before .before .before .before .read .kept .1 .1 .0)
+array-share-prefix-heap c = let small = found-small (c .before .got .given .1) (c .before .before .before .before .before .read .ensures .1) in omega (arith, small .words-in, c .before .before .before .before .before .read .kept .1 .1 .0)
 
-slice-aggregate-collected : tie.Need-slice-aggregate-collected
-slice-aggregate-collected c = let small = found-small (c .before .before .begun .given .1) (c .before .before .before .before .before .before .read .ensures .1) in sym (length-take-le _ _ (omega (arith, small .words-in, c .before .before .before .before .before .before .read .kept .1 .1 .0)))
+slice-aggregate-image-lines : tie.Need-slice-aggregate-image-lines
+slice-aggregate-image-lines c = let small = found-small (c .before .before .got .given .1) (c .before .before .before .before .before .before .read .ensures .1) in sym (length-take-le _ _ (omega (arith, small .words-in, c .before .before .before .before .before .before .read .kept .1 .1 .0)))
 
 array-share-prefix-roots : tie.Need-array-share-prefix-roots
-array-share-prefix-roots c = let small = found-small (c .before .before .begun .given .1) (c .before .before .before .before .before .before .read .ensures .1) in omega (arith, small .roots-in, c .before .before .before .before .before .before .read .kept .1 .0)
+array-share-prefix-roots c = let small = found-small (c .before .before .got .given .1) (c .before .before .before .before .before .before .read .ensures .1) in omega (arith, small .roots-in, c .before .before .before .before .before .before .read .kept .1 .0)
 
-slice-aggregate-collected-2 : tie.Need-slice-aggregate-collected-2
-slice-aggregate-collected-2 c = let small = found-small (c .before .before .before .begun .given .1) (c .before .before .before .before .before .before .before .read .ensures .1) in sym (length-take-le _ _ (omega (arith, small .roots-in, c .before .before .before .before .before .before .before .read .kept .1 .0)))
+slice-aggregate-image-lines-2 : tie.Need-slice-aggregate-image-lines-2
+slice-aggregate-image-lines-2 c = let small = found-small (c .before .before .before .got .given .1) (c .before .before .before .before .before .before .before .read .ensures .1) in sym (length-take-le _ _ (omega (arith, small .roots-in, c .before .before .before .before .before .before .before .read .kept .1 .0)))
 
-collected-requires : tie.Need-collected-requires
-collected-requires c κs = search needs
+image-lines-requires : tie.Need-image-lines-requires
+image-lines-requires c κs = search needs
 
 same-length : tie.Need-same-length
 same-length c = search needs
@@ -59,7 +59,7 @@ returns-3 : tie.Need-returns-3
 returns-3 c =
     let t = c .before .before .before .before .before .before .before .before .before .before .before .before .before .before .before .before .before .args in
     let r = c .before .before .before .before .before .before .before .before .before .before .before .read in
-    reports-written (t .text .now) (t .out .now) (omega arith) (c .before .before .collected .ensures) (answer-right (t .text .now) _ _ (r .ensures .0) (c .before .before .before .before .before .before .before .begun .given .1))
+    reports-written (t .text .now) (t .out .now) (omega arith) (c .before .before .image-lines .ensures) (answer-right (t .text .now) _ _ (r .ensures .0) (c .before .before .before .before .before .before .before .got .given .1))
 
 pub answer-spec : {M : Type 1} → statement M
 answer-spec =
@@ -71,12 +71,12 @@ answer-spec =
     read-requires
     enum-known-line
     code-lines-requires
-    enum-known-begun
+    enum-known-got
     array-share-prefix-heap
-    slice-aggregate-collected
+    slice-aggregate-image-lines
     array-share-prefix-roots
-    slice-aggregate-collected-2
-    collected-requires
+    slice-aggregate-image-lines-2
+    image-lines-requires
     same-length
     returns-2
     same-length-2

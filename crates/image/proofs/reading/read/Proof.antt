@@ -9,10 +9,10 @@ use Rattle.image.proofs.reading.read.Statement.{statement}
 use Rattle.image.proofs.reading.read.Tie as tie
 
 abbrev Inv-loop : tie.InvT-loop
-Inv-loop text roots₀ heap₀ begun₀ at₀ roots heap begun at = Between text roots heap begun at × (length roots ≡ length roots₀) × (length heap ≡ length heap₀)
+Inv-loop text roots₀ heap₀ got₀ at₀ roots heap got at = Between text roots heap got at × (length roots ≡ length roots₀) × (length heap ≡ length heap₀)
 
 abbrev μ-loop : tie.MeasureT-loop
-μ-loop text roots₀ heap₀ begun₀ at₀ roots heap begun at = length text - at
+μ-loop text roots₀ heap₀ got₀ at₀ roots heap got at = length text - at
 
 returns : tie.Need-returns Inv-loop μ-loop
 returns c = (text-long (c .before .before .before .before .args .text .now) (c .if1 .taken), tt)

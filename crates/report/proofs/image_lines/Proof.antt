@@ -1,9 +1,9 @@
--- `collected`: each way out is a law of `collected`.
+-- `image_lines`: each way out is a law of `image_lines`.
 use borrow.Author.Needs.{needs}
 use Rattle.report.specs.AnswerLaws.{refuses-collection, refuses-survey, counts-all, records-lie}
 use Rattle.report.specs.PutsLaws.{puts-then}
-use Rattle.report.proofs.collected.Statement.{statement}
-use Rattle.report.proofs.collected.Tie as tie
+use Rattle.report.proofs.image_lines.Statement.{statement}
+use Rattle.report.proofs.image_lines.Tie as tie
 
 -- Where the collection has answered, seen from where its code is known.
 abbrev gone : tie.After-struct-known → tie.After-collect
@@ -97,8 +97,8 @@ returns-3 c =
     rw (← counts-all (t .heap .now) (t .keep) (t .roots .now) (ready d .set-up .ensures) (gone d .collect .ensures) (m .before .before .before .before .before .before .before .before .before .before .before .if1 .left) (m .before .before .before .before .before .before .before .before .survey .ensures) (m .before .before .before .before .before .before .if2 .left))
     (puts-then 0 _ _ (t .out .now) (m .before .before .before .before .count-lines .ensures) (c .before .before .free-lines .ensures))
 
-pub collected-spec : {M : Type 1} → statement M
-collected-spec =
+pub image-lines-spec : {M : Type 1} → statement M
+image-lines-spec =
     tie.close
     (tie.spec
     slice-aggregate-set-up

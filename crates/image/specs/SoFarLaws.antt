@@ -11,12 +11,12 @@ use lib.Dec.{leb, ltb, eqb}
 use borrow.Author.Tests.{leb-true, ltb-true}
 use Rattle.layout.specs.Limits.{maxKeep}
 use Rattle.image.specs.Image.{maxHeap, maxImageRoots, on, off, onIf, takesWords, takesKeep, takesRoot, takesWord}
-use Rattle.image.specs.Begun.{shows}
+use Rattle.image.specs.SoFar.{shows}
 use Rattle.image.specs.declared.decimals.Number.{Number}
 use Rattle.image.specs.declared.decimals.Number.the-variants.{Is}
 use Rattle.image.specs.declared.decimals.Pair.{Pair}
 use Rattle.image.specs.declared.decimals.Pair.the-variants.{Are}
-use Rattle.image.specs.declared.reading.Begun.{Begun}
+use Rattle.image.specs.declared.reading.SoFar.{SoFar}
 
 -- A store behind a front makes it one longer.
 front-more : (l : List ℕ) (n v : ℕ) → n < length l → take n l ++ v ∷ [] ≡ take (n + 1) (set l n v)
@@ -25,7 +25,7 @@ front-more l n v lt =
     sym (rw (more, getD-set-same l n v 0 lt, take-set-le n l n v (omega arith)))
 
 -- A `words` line with a number.
-module _ (b : Begun) {number : Number} {n : ℕ} (given : number ≡ Is n) where
+module _ (b : SoFar) {number : Number} {n : ℕ} (given : number ≡ Is n) where
   -- The code's test.
   abbrev words-test : Bool
   words-test = eqb (b .lines) 0 && leb 1 n && leb n maxHeap
@@ -49,7 +49,7 @@ module _ (b : Begun) {number : Number} {n : ℕ} (given : number ≡ Is n) where
         rw (given, e, take-at zeros (drop n heap) n (ap length copies ∙ length-replicate n 0), copies)
 
 -- A `keep` line with a number.
-module _ (b : Begun) {number : Number} {n : ℕ} (given : number ≡ Is n) (roots heap : List ℕ) where
+module _ (b : SoFar) {number : Number} {n : ℕ} (given : number ≡ Is n) (roots heap : List ℕ) where
   -- The code's test.
   abbrev keep-test : Bool
   keep-test = eqb (b .lines) 1 && leb 1 n && leb n maxKeep
@@ -65,7 +65,7 @@ module _ (b : Begun) {number : Number} {n : ℕ} (given : number ≡ Is n) (root
   keep-on e = rw (given, e)
 
 -- A `root` line with a number.
-module _ (b : Begun) {number : Number} {n : ℕ} (given : number ≡ Is n) where
+module _ (b : SoFar) {number : Number} {n : ℕ} (given : number ≡ Is n) where
   -- The code's test.
   abbrev root-test : Bool
   root-test = leb 2 (b .lines) && eqb (b .last) 0 && ltb (b .roots) maxImageRoots
@@ -87,7 +87,7 @@ module _ (b : Begun) {number : Number} {n : ℕ} (given : number ≡ Is n) where
     root-on e lt = rw (given, length-take-le (b .roots) roots le, e, front-more roots (b .roots) n lt)
 
 -- A `word` line with a pair.
-module _ (b : Begun) {pair : Pair} {a v : ℕ} (given : pair ≡ Are a v) where
+module _ (b : SoFar) {pair : Pair} {a v : ℕ} (given : pair ≡ Are a v) where
   -- The code's test.
   abbrev word-test : Bool
   word-test = leb 2 (b .lines) && ltb (b .last) a && ltb a (b .words) && not (eqb v 0)

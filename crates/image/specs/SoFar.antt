@@ -3,14 +3,14 @@ use Prim.Native.Nat.{ℕ, _≤_, _<_}
 use mathlib.Core.List.{List}
 use lib.ListN.{length, take}
 use Rattle.image.specs.Image.{maxText, maxHeap, maxImageRoots, Image, Taken, on, off, Text, right, wrong}
-use Rattle.image.specs.declared.reading.Begun.{Begun}
+use Rattle.image.specs.declared.reading.SoFar.{SoFar}
 use Rattle.image.specs.declared.reading.Next.{Next}
 use Rattle.image.specs.declared.reading.Next.the-variants.{On, Off}
 use Rattle.image.specs.declared.reading.ReadText.{ReadText}
 use Rattle.image.specs.declared.reading.ReadText.the-variants.{Right, WrongLine}
 
 -- The image: roots and heap are the fronts of the lent words.
-abbrev pub shows : Begun → List ℕ → List ℕ → Image
+abbrev pub shows : SoFar → List ℕ → List ℕ → Image
 shows b roots heap = record { lines = b .lines; last = b .last; keep = b .keep; roots = take (b .roots) roots; heap = take (b .words) heap }
 
 -- What one line more made.
@@ -24,7 +24,7 @@ showsText (Right b) roots heap = right (shows b roots heap)
 showsText (WrongLine n) roots heap = wrong n
 
 -- There are no more roots and words than an image may have.
-pub record Small (b : Begun) : Type 0 where
+pub record Small (b : SoFar) : Type 0 where
   pub roots-in : b .roots ≤ maxImageRoots
   pub words-in : b .words ≤ maxHeap
 
@@ -39,7 +39,7 @@ SmallText (Right b) = Small b
 SmallText (WrongLine n) = Unit {0}
 
 -- There is room for any image, and a line may follow.
-pub record LineFits (b : Begun) (roots heap : List ℕ) : Type 0 where
+pub record LineFits (b : SoFar) (roots heap : List ℕ) : Type 0 where
   pub few : b .lines < maxText
   pub root-room : maxImageRoots ≤ length roots
   pub word-room : maxHeap ≤ length heap
