@@ -46,7 +46,7 @@ pub digits-end : (part : List ℕ) (n i : ℕ) → length part ≤ i → digitsO
 unfolding digitsOn
 digits-end part n i le = rw (drop-of-length-le part le)
 
--- The next byte of a part.
+-- The next byte of a part, b.
 module _ (part : List ℕ) (n i : ℕ) (l : i < length part) where
   abbrev b : ℕ
   b = getD part i 0
@@ -88,6 +88,7 @@ second-wrong Wrong = refl
 
 -- The search for a comma, as the code makes it.
 module _ (part : List ℕ) {c : ℕ} (found : c ≡ 0 + indexOf 44 (slice 0 (length part) part)) where
+  -- It finds the first.
   comma : c ≡ indexOf 44 part
   unfolding slice
   comma = rw (found, take-length part) (omega arith)

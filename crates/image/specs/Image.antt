@@ -91,7 +91,7 @@ takesLine image line =
     (cond (starts (ascii "word=") line) (takesWord image (pairOf (drop 5 line)))
     off)))
 
--- What a text is: an image, or wrong, with the number of its first wrong line.
+-- What a text is: an image, or wrong, with the number of its first wrong line, or with 0 if it is too long.
 pub data Text : Type 0 where
   right : Image → Text
   wrong : ℕ → Text
@@ -106,6 +106,6 @@ unfoldable pub readOn : Image → List (List ℕ) → Text
 readOn image [] = unless (leb 2 (image .lines)) (wrong (image .lines + 1)) (right image)
 readOn image (line ∷ rest) = orWrong (image .lines + 1) (λ next. readOn next rest) (takesLine image (firstLine line))
 
--- A text of at most 60,000 bytes is read line by line; a longer one is wrong in no line of its own.
+-- A text of at most 60,000 bytes is read line by line; a longer one is wrong, with 0 for its line.
 unfoldable pub textOf : List ℕ → Text
 textOf text = unless (leb (length text) maxText) (wrong 0) (readOn blank (linesOf text))

@@ -47,25 +47,30 @@ module _ (key line : List ℕ) (i : ℕ) (k : i < length key) (l : i < length li
 
 -- What a line is, key by key.
 module _ (image : Image) (line : List ℕ) where
+  -- The key `words` tells first.
   pub line-words : starts (ascii "words=") line ≡ true → takesWords image (decimalOf (drop 6 line)) ≡ takesLine image line
   unfolding takesLine
   line-words e = rw e
 
   module _ (words : starts (ascii "words=") line ≡ false) where
+    -- Else the key `keep`.
     pub line-keep : starts (ascii "keep=") line ≡ true → takesKeep image (decimalOf (drop 5 line)) ≡ takesLine image line
     unfolding takesLine
     line-keep e = rw (words, e)
 
     module _ (keep : starts (ascii "keep=") line ≡ false) where
+      -- Else the key `root`.
       pub line-root : starts (ascii "root=") line ≡ true → takesRoot image (decimalOf (drop 5 line)) ≡ takesLine image line
       unfolding takesLine
       line-root e = rw (words, keep, e)
 
       module _ (root : starts (ascii "root=") line ≡ false) where
+        -- Else the key `word`.
         pub line-word : starts (ascii "word=") line ≡ true → takesWord image (pairOf (drop 5 line)) ≡ takesLine image line
         unfolding takesLine
         line-word e = rw (words, keep, root, e)
 
+        -- A line with none of them is wrong.
         pub line-other : starts (ascii "word=") line ≡ false → off ≡ takesLine image line
         unfolding takesLine
         line-other e = rw (words, keep, root, e)

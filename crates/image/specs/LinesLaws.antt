@@ -52,13 +52,13 @@ line-length text = line-either (λ line. line ≢ [] → length line ≡ indexOf
 pub line-inside : (text : List ℕ) → firstLine text ≢ [] → indexOf 10 text < length text
 line-inside text = line-either (λ line. line ≢ [] → indexOf 10 text < length text) text (λ inside some. inside) (λ some. absurd (some refl))
 
--- The line at the front of a text is as much of it as it is long.
-line-front : (text : List ℕ) → take (length (firstLine text)) text ≡ firstLine text
-line-front text = line-either (λ line. take (length line) text ≡ line) text (λ inside. rw (length-take-le (indexOf 10 text) text (omega arith))) refl
-
 -- A part that goes on to the end is all that is left.
 pub part-behind : (l : List ℕ) (a : ℕ) → take (length l - a) (drop a l) ≡ drop a l
 part-behind l a = take-all (length l - a) (drop a l) (omega (arith, length-drop a l))
+
+-- The line at the front of a text is as much of it as it is long.
+line-front : (text : List ℕ) → take (length (firstLine text)) text ≡ firstLine text
+line-front text = line-either (λ line. take (length line) text ≡ line) text (λ inside. rw (length-take-le (indexOf 10 text) text (omega arith))) refl
 
 -- The same at a place of a text, of the rest as the code cuts it.
 pub line-part : (text : List ℕ) (at : ℕ) {n : ℕ} → n ≡ length (firstLine (take (length text - at) (drop at text))) → take n (take (length text - at) (drop at text)) ≡ firstLine (drop at text)

@@ -108,23 +108,27 @@ text-begins text roots heap short r h =
     record { inside = omega arith; short = short; lines-in = omega arith; root-room = r; word-room = h; small = record { roots-in = omega arith; words-in = omega arith }; rest = rw (le-leb (length text) maxText short) }
 
 module _ {text roots heap : List ℕ} {b : SoFar} {at : ℕ} (g : Between text roots heap b at) where
-  -- At the end two lines at least were read, or one is missing.
+  -- At the end of the text a line is missing where fewer than two were read.
   pub text-missing : length text ≤ at → b .lines < 2 → wrong (b .lines + 1) ≡ textOf text
   unfolding readOn linesOf
   text-missing le few = sym (rw (drop-of-length-le text le, lt-leb 2 (b .lines) few)) ∙ g .rest
 
+  -- Else the text is right.
   pub text-ends : length text ≤ at → 2 ≤ b .lines → right (shows b roots heap) ≡ textOf text
   unfolding readOn linesOf
   text-ends le enough = sym (rw (drop-of-length-le text le, le-leb 2 (b .lines) enough)) ∙ g .rest
 
   -- Before the end there is a line.
   module _ (more : at < length text) where
+    -- It may be read.
     pub line-fits : LineFits b roots heap
     line-fits = record { few = omega (arith, g .lines-in, g .short); root-room = g .root-room; word-room = g .word-room; small = g .small }
 
+    -- What is left of the text.
     abbrev unread : List ℕ
     unread = drop at text
 
+    -- There is some.
     some-unread : 0 < length unread
     some-unread = omega (arith, length-drop at text)
 
@@ -142,12 +146,15 @@ module _ {text roots heap : List ℕ} {b : SoFar} {at : ℕ} (g : Between text r
 
       -- Any other is ended by an LF.
       module _ {came : Next} {next : SoFar} (told : came ≡ On next) (roots′ heap′ : List ℕ) (e : showsNext came roots′ heap′ ≡ takesLine (shows b roots heap) line) where
+        -- It makes the next image.
         goes : takesLine (shows b roots heap) (firstLine unread) ≡ on (shows next roots′ heap′)
         goes = ap (takesLine (shows b roots heap)) (sym here) ∙ sym e ∙ ap (λ (n : Next). showsNext n roots′ heap′) told
 
+        -- It is not empty.
         some : firstLine unread ≢ []
         some none = on≢off (sym goes ∙ ap (takesLine (shows b roots heap)) none ∙ none-off (shows b roots heap))
 
+        -- Its LF stands behind it.
         behind : suc (indexOf 10 unread) ≡ length line + 1
         behind = omega (arith, ap length here, line-length unread some)
 

@@ -26,7 +26,7 @@ front-more l n v lt =
 
 -- A `words` line with a number.
 module _ (b : SoFar) {number : Number} {n : ℕ} (given : number ≡ Is n) where
-  -- The code's test.
+  -- The line may stand here, and the number is in its limits.
   abbrev words-test : Bool
   words-test = eqb (b .lines) 0 && leb 1 n && leb n maxHeap
 
@@ -50,7 +50,7 @@ module _ (b : SoFar) {number : Number} {n : ℕ} (given : number ≡ Is n) where
 
 -- A `keep` line with a number.
 module _ (b : SoFar) {number : Number} {n : ℕ} (given : number ≡ Is n) (roots heap : List ℕ) where
-  -- The code's test.
+  -- The line may stand here, and the number is in its limits.
   abbrev keep-test : Bool
   keep-test = eqb (b .lines) 1 && leb 1 n && leb n maxKeep
 
@@ -66,7 +66,7 @@ module _ (b : SoFar) {number : Number} {n : ℕ} (given : number ≡ Is n) (root
 
 -- A `root` line with a number.
 module _ (b : SoFar) {number : Number} {n : ℕ} (given : number ≡ Is n) where
-  -- The code's test.
+  -- The line may stand here, and there is room for a root.
   abbrev root-test : Bool
   root-test = leb 2 (b .lines) && eqb (b .last) 0 && ltb (b .roots) maxImageRoots
 
@@ -88,7 +88,7 @@ module _ (b : SoFar) {number : Number} {n : ℕ} (given : number ≡ Is n) where
 
 -- A `word` line with a pair.
 module _ (b : SoFar) {pair : Pair} {a v : ℕ} (given : pair ≡ Are a v) where
-  -- The code's test.
+  -- The line may stand here, the address is the next, and the value is not 0.
   abbrev word-test : Bool
   word-test = leb 2 (b .lines) && ltb (b .last) a && ltb a (b .words) && not (eqb v 0)
 

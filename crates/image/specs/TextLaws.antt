@@ -20,6 +20,7 @@ use Rattle.image.specs.declared.decimals.Pair.the-variants.{Are, NoPair}
 
 -- A line keeps the limits.
 module _ (image : Image) (k : Limited image) where
+  -- A `words` line does.
   words-limited : (number : Number) → IfOn Limited (takesWords image number)
   words-limited (Is n) = if-tested Limited (eqb (image .lines) 0 && leb 1 n && leb n maxHeap) _ (λ e.
       let x = and-eq-true-iff (eqb (image .lines) 0 && leb 1 n) _ .0 e in
@@ -28,6 +29,7 @@ module _ (image : Image) (k : Limited image) where
       record { heap-most = rw (length-replicate {A = ℕ} n 0) most; roots-most = k .roots-most; heap-least = λ _. rw (length-replicate {A = ℕ} n 0) least; keep-least = λ l. absurd (omega (arith, l)); keep-most = λ l. absurd (omega (arith, l)) })
   words-limited Wrong = tt
 
+  -- So does a `keep` line.
   keep-limited : (number : Number) → IfOn Limited (takesKeep image number)
   keep-limited (Is n) = if-tested Limited (eqb (image .lines) 1 && leb 1 n && leb n maxKeep) _ (λ e.
       let x = and-eq-true-iff (eqb (image .lines) 1 && leb 1 n) _ .0 e in
@@ -35,6 +37,7 @@ module _ (image : Image) (k : Limited image) where
       record { heap-most = k .heap-most; roots-most = k .roots-most; heap-least = λ _. k .heap-least (omega (arith, eqb-true (image .lines) 1 (y .0))); keep-least = λ _. leb-true 1 n (y .1); keep-most = λ _. leb-true n maxKeep (x .1) })
   keep-limited Wrong = tt
 
+  -- So does a `root` line.
   root-limited : (number : Number) → IfOn Limited (takesRoot image number)
   root-limited (Is n) = if-tested Limited (leb 2 (image .lines) && eqb (image .last) 0 && ltb (length (image .roots)) maxImageRoots) _ (λ e.
       let x = and-eq-true-iff (leb 2 (image .lines) && eqb (image .last) 0) _ .0 e in
@@ -42,6 +45,7 @@ module _ (image : Image) (k : Limited image) where
       record { heap-most = k .heap-most; roots-most = omega (arith, length-append (image .roots) (n ∷ []), ltb-true (length (image .roots)) maxImageRoots (x .1)); heap-least = λ _. k .heap-least (omega (arith, two)); keep-least = λ _. k .keep-least two; keep-most = λ _. k .keep-most two })
   root-limited Wrong = tt
 
+  -- So does a `word` line.
   word-limited : (pair : Pair) → IfOn Limited (takesWord image pair)
   word-limited (Are a v) = if-tested Limited (leb 2 (image .lines) && ltb (image .last) a && ltb a (length (image .heap)) && not (eqb v 0)) _ (λ e.
       let x = and-eq-true-iff (leb 2 (image .lines) && ltb (image .last) a && ltb a (length (image .heap))) _ .0 e in
@@ -50,6 +54,7 @@ module _ (image : Image) (k : Limited image) where
       record { heap-most = rw (length-set (image .heap) a v) (k .heap-most); roots-most = k .roots-most; heap-least = λ _. rw (length-set (image .heap) a v) (k .heap-least (omega (arith, two))); keep-least = λ _. k .keep-least two; keep-most = λ _. k .keep-most two })
   word-limited NoPair = tt
 
+  -- So does any line.
   line-limited : (line : List ℕ) → IfOn Limited (takesLine image line)
   line-limited line = if-line Limited image line words-limited keep-limited root-limited word-limited
 

@@ -1,4 +1,4 @@
-// Decimals and pairs. Each reader is lent a part of a line that starts behind its equals sign.
+// Decimals and pairs. A reader is lent a part of a line: what stands behind its equals sign, or a part of that.
 use bytes::scan;
 ghost use mathlib.Core.Path.{_≡_};
 ghost use Rattle.image.specs.Decimal.{isDigit, isPlain, digitsOn, decimalOf, both, pairOf};

@@ -37,7 +37,7 @@ pub(crate) enum Next {
     Off,
 }
 
-// What a text is: an image, or wrong, with the number of its first wrong line.
+// What a text is: an image, or wrong, with the number of its first wrong line, or with 0 if it is too long.
 pub enum ReadText {
     Right(SoFar),
     WrongLine(usize),
@@ -194,7 +194,7 @@ pub fn read(text: &[u8], roots: &mut [u32], heap: &mut [u32]) -> ReadText
             return ReadText::WrongLine(got.lines + 1);
         };
         got = more;
-        at += line.len() + 1;
+        at = reader::place_past(text, at, line.len());
     }
     if got.lines < 2 {
         return ReadText::WrongLine(got.lines + 1);

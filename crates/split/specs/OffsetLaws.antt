@@ -11,10 +11,10 @@ pub gets : {A : Type 0} (p q : List A) (k i : ℕ) (d : A) → length p + k ≡ 
 gets p q k i d e = rw (← e) (getD-append-add p q k d)
 
 -- A store.
-pub puts : {A : Type 0} (p q : List A) (k i : ℕ) (x : A) → length p + k ≡ i → set (p ++ q) i x ≡ p ++ set q k x
-puts [] q k i x e = let h : i ≡ k = omega arith in rw h
-puts (y ∷ p) q k zero x e = absurd (omega arith)
-puts (y ∷ p) q k (suc i) x e = ap (λ (t : List _). y ∷ t) (puts p q k i x (omega arith))
+pub set-behind : {A : Type 0} (p q : List A) (k i : ℕ) (x : A) → length p + k ≡ i → set (p ++ q) i x ≡ p ++ set q k x
+set-behind [] q k i x e = let h : i ≡ k = omega arith in rw h
+set-behind (y ∷ p) q k zero x e = absurd (omega arith)
+set-behind (y ∷ p) q k (suc i) x e = ap (λ (t : List _). y ∷ t) (set-behind p q k i x (omega arith))
 
 -- What stands before a place.
 pub takes : {A : Type 0} (p q : List A) (k i : ℕ) → length p + k ≡ i → take i (p ++ q) ≡ p ++ take k q

@@ -15,7 +15,7 @@ use Rattle.freelist.specs.RecordsLaws.{length-records, record-at, records-flat}
 use Rattle.split.specs.Relisted.{relisted}
 use Rattle.split.specs.Moves.{raised, lowered}
 use Rattle.split.specs.RelistedLaws.{length-flat, flat-append, relisted-less, relisted-more}
-use Rattle.split.specs.OffsetLaws.{puts, takes, drops}
+use Rattle.split.specs.OffsetLaws.{set-behind, takes, drops}
 
 -- How many records stand before record j of n, and how many behind it.
 around : (n : ℕ) (list : List ℕ) (j : ℕ) → j < n → (length (take j (records n list)) ≡ j) × (suc j + length (drop (suc j) (records n list)) ≡ n)
@@ -49,12 +49,12 @@ parts n list j h f =
 module _ {n : ℕ} {list : List ℕ} {j : ℕ} {front back rest : List ℕ} {u v : ℕ} (w : Parts n list j front back rest u v) where
   -- Its size is stored.
   stored-size : (x : ℕ) → set list (2 * j + 1) x ≡ front ++ (u ∷ x ∷ (back ++ rest))
-  stored-size x = rw (w .same) (puts front (u ∷ v ∷ (back ++ rest)) 1 (2 * j + 1) x (omega arith))
+  stored-size x = rw (w .same) (set-behind front (u ∷ v ∷ (back ++ rest)) 1 (2 * j + 1) x (omega arith))
 
   -- Both its words are.
   stored-both : (x y : ℕ) → set (set list (2 * j) x) (2 * j + 1) y ≡ front ++ (x ∷ y ∷ (back ++ rest))
   stored-both x y =
-      rw (w .same, puts front (u ∷ v ∷ (back ++ rest)) 0 (2 * j) x (omega arith)) (puts front (x ∷ v ∷ (back ++ rest)) 1 (2 * j + 1) y (omega arith))
+      rw (w .same, set-behind front (u ∷ v ∷ (back ++ rest)) 0 (2 * j) x (omega arith)) (set-behind front (x ∷ v ∷ (back ++ rest)) 1 (2 * j + 1) y (omega arith))
 
   -- A record comes in behind it, and its size is stored.
   stored-behind : (x y z : ℕ) → set (raised (2 * j + 2) (2 * n) y z list) (2 * j + 1) x ≡ front ++ (u ∷ x ∷ y ∷ z ∷ (back ++ drop (2 * n + 2) list))
@@ -64,7 +64,7 @@ module _ {n : ℕ} {list : List ℕ} {j : ℕ} {front back rest : List ℕ} {u v
       let t : take (2 * j + 2) list ≡ front ++ (u ∷ v ∷ []) = rw (w .same) (takes front (u ∷ v ∷ (back ++ rest)) 2 (2 * j + 2) (omega arith)) in
       let g : take (2 * n) list ≡ front ++ (u ∷ v ∷ back) =
       rw (w .same) (takes front (u ∷ v ∷ (back ++ rest)) (suc (suc (length back))) (2 * n) (omega arith) ∙ ap (λ (o : List ℕ). front ++ (u ∷ v ∷ o)) (take-append-seam back rest)) in
-      rw (t, g, drops front (u ∷ v ∷ back) 2 (2 * j + 2) (omega arith), append-assoc front (u ∷ v ∷ []) (y ∷ z ∷ (back ++ past))) (puts front (u ∷ v ∷ y ∷ z ∷ (back ++ past)) 1 (2 * j + 1) x (omega arith))
+      rw (t, g, drops front (u ∷ v ∷ back) 2 (2 * j + 2) (omega arith), append-assoc front (u ∷ v ∷ []) (y ∷ z ∷ (back ++ past))) (set-behind front (u ∷ v ∷ y ∷ z ∷ (back ++ past)) 1 (2 * j + 1) x (omega arith))
 
   -- It goes.
   stored-none : (k : ℕ) → 2 * j + 2 + k ≡ 2 * n → lowered (2 * j) k list ≡ front ++ (back ++ (0 ∷ 0 ∷ rest))

@@ -1,6 +1,6 @@
 -- `reading::read`: between two lines, those that are left decide what the text is.
 use Prim.Native.Nat.{_-_}
-use mathlib.Core.Path.{_≡_, refl, _∙_}
+use mathlib.Core.Path.{_≡_, refl, sym, _∙_, subst}
 use native.Mathlib.Omega.{arith}
 use lib.ListN.{length}
 use borrow.Author.Needs.{needs}
@@ -47,29 +47,27 @@ returns-2 c =
     let t = c .before .before .before .before .before .before .before .take in
     (line-stops (h .inv .0) (omega arith) (c .before .before .before .before .before .before .before .before .before .before .line-from .ensures) (c .before .enum-told .given .1) (t .last .1 .1 .0) (t .last .1 .1 .1 .0) (t .ensures .0), tt)
 
-add-at : tie.Need-add-at Inv-loop μ-loop
-add-at c = search needs
-
-add-at-2 : tie.Need-add-at-2 Inv-loop μ-loop
-add-at-2 c =
-    let h = c .before .before .before .before .before .before .before .before .before .before .before .before .loop in
-    let t = c .before .before .before .before .before .before .before .take in
-    record { fits = omega (arith, next-inside (h .inv .0) (omega arith) (c .before .before .before .before .before .before .before .before .before .before .line-from .ensures) (c .before .more .given .1) (t .last .1 .1 .0) (t .last .1 .1 .1 .0) (t .ensures .0), h .inv .0 .short) }
-
-loop-less : tie.Need-loop-less Inv-loop μ-loop
-loop-less c =
+place-past-requires : tie.Need-place-past-requires Inv-loop μ-loop
+place-past-requires c κs =
     let h = c .before .before .before .before .before .before .before .before .before .before .before .before .loop in
     let t = c .before .before .before .before .before .before .before .take in
     omega (arith, next-inside (h .inv .0) (omega arith) (c .before .before .before .before .before .before .before .before .before .before .line-from .ensures) (c .before .more .given .1) (t .last .1 .1 .0) (t .last .1 .1 .1 .0) (t .ensures .0), h .inv .0 .short)
 
+loop-less : tie.Need-loop-less Inv-loop μ-loop
+loop-less c =
+    let h = c .before .before .before .before .before .before .before .before .before .before .before .before .before .loop in
+    let t = c .before .before .before .before .before .before .before .before .take in
+    omega (arith, next-inside (h .inv .0) (omega arith) (c .before .before .before .before .before .before .before .before .before .before .before .line-from .ensures) (c .before .before .more .given .1) (t .last .1 .1 .0) (t .last .1 .1 .1 .0) (t .ensures .0), c .place-past .ensures)
+
 loop-again : tie.Need-loop-again Inv-loop μ-loop
 loop-again c =
-    let h = c .before .before .before .before .before .before .before .before .before .before .before .before .loop in
-    let t = c .before .before .before .before .before .before .before .take in
-    (line-goes (h .inv .0) (omega arith) (c .before .before .before .before .before .before .before .before .before .before .line-from .ensures) (c .before .more .given .1) (t .last .1 .1 .0) (t .last .1 .1 .1 .0) (t .ensures .0) (omega (arith, t .kept .1 .1 .0, h .inv .0 .root-room)) (omega (arith, t .kept .1 .1 .1 .0, h .inv .0 .word-room)) (t .ensures .1), t .kept .1 .1 .0 ∙ h .inv .1, t .kept .1 .1 .1 .0 ∙ h .inv .2)
+    let h = c .before .before .before .before .before .before .before .before .before .before .before .before .before .loop in
+    let t = c .before .before .before .before .before .before .before .before .take in
+    let goes = line-goes (h .inv .0) (omega arith) (c .before .before .before .before .before .before .before .before .before .before .before .line-from .ensures) (c .before .before .more .given .1) (t .last .1 .1 .0) (t .last .1 .1 .1 .0) (t .ensures .0) (omega (arith, t .kept .1 .1 .0, h .inv .0 .root-room)) (omega (arith, t .kept .1 .1 .1 .0, h .inv .0 .word-room)) (t .ensures .1) in
+    (subst (Between _ _ _ _) (sym (c .place-past .ensures)) goes, t .kept .1 .1 .0 ∙ h .inv .1, t .kept .1 .1 .1 .0 ∙ h .inv .2)
 
-add-t19 : tie.Need-add-t19 Inv-loop μ-loop
-add-t19 c = search needs
+add-t18 : tie.Need-add-t18 Inv-loop μ-loop
+add-t18 c = search needs
 
 same-length-3 : tie.Need-same-length-3 Inv-loop μ-loop
 same-length-3 c = search needs
@@ -105,11 +103,10 @@ read-spec =
     same-length
     same-length-2
     returns-2
-    add-at
-    add-at-2
+    place-past-requires
     loop-less
     loop-again
-    add-t19
+    add-t18
     same-length-3
     same-length-4
     returns-3

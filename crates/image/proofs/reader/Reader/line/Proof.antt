@@ -20,14 +20,11 @@ use types.Part.{whole, sub, look-in}
 use types.Run.{look, init, forget, stop, fld, from, load, of-opd, and-then, no-more, assigns, land, returns, enter, alloc1, alloc0, params1, pass1, pass0, free1, free0}
 use sound.WpLaws.{fmOf, WpFn-mono}
 use denote.RattleType.{owns}
-use denote.Laws.{Is}
-use denote.Plain.{uint-makes}
 use denote.Builtin.{u8, usize}
 use denote.Exit.{yes}
 use denote.Ref.{RefT, now}
 use denote.Slice.{shr-slice-lawful}
-use denote.Steps.{owned, nothing}
-use denote.Struct.Declared.{Declared}
+use denote.Steps.{nothing}
 use denote.Struct.Laws as LL
 use denote.Struct.Rest.{all-own, ownAt, rest, own-open, own-out}
 use denote.Struct.Values.{Values}
@@ -44,8 +41,7 @@ use Rattle.image.proofs.line.line_in as line-in
 use Rattle.image.proofs.line.line_in.Symbol as line-in-def
 use Rattle.image.proofs.line.line_in.Symbol.{name as #image·line-in}
 use Rattle.image.proofs.line.line_in.Met as line-in-thm
-use Rattle.image.proofs.reader.Cursor.{lifetime, Cursor, Text, machine, token, answered}
-use Rattle.image.proofs.reader.Reader as T
+use Rattle.image.proofs.reader.Cursor.{lifetime, Cursor, Parts, laws, Text, machine, token, number, answered}
 use Rattle.image.proofs.reader.Reader.Laws as T′
 use Rattle.image.proofs.reader.Reader.line.Key.{name as #image·line}
 use Rattle.image.proofs.reader.Reader.line as line
@@ -95,16 +91,8 @@ module _ {M : Type 1} (𝓤 : URA M) (H : Heap 𝓤) (A : Atoms 𝓤) (W : Given
       abbrev Own : Fml
       Own = Cursor (κ, tt) .own d (mach ∷ [])
 
-      -- The cursor's fields.
-      abbrev D : Declared
-      D = T.the-type (lifetime (κ, tt))
-
-      -- Their laws.
-      abbrev L : LL.Laws D
-      L = T′.the-laws (lifetime (κ, tt))
-
-      -- Their values.
-      abbrev fields : Values (D .parts)
+      -- The values of the cursor's fields.
+      abbrev fields : Values (Parts (κ, tt) .parts)
       fields = (d .text, (d .at, tt))
 
       -- Their machine values.
@@ -123,10 +111,10 @@ module _ {M : Type 1} (𝓤 : URA M) (H : Heap 𝓤) (A : Atoms 𝓤) (W : Given
       apart : d .at < 2 ^ 64 → ent 𝓤 Pre (sep 𝓤 (LineAt .pre that) (sem 𝓤 H A Own))
       apart fits =
           qed W (token κ q ∷ ‵ (owns (Cursor (κ, tt) ∷ []) (d, tt) (mach ∷ [], tt)) ∷ []) ∵
-          move ! (1 ∷ []) $ fsplit ! $ move ! (1 ∷ []) $ drop ! $ use1 W (‵ Own ⊛ ‵ Own) (LL.copy D (T′.the-copy (lifetime (κ, tt))) 𝓤 H A W .twice d (mach ∷ [])) $ split ! $
-          use1 W (given (mach ∷ [] ≡ mach ∷ []) (‵ (all-own (D .parts) L fields))) (own-open 𝓤 H A W D L fields mach) $ learn ! (λ _.
-          use1 W (‵ (ownAt (D .parts) L 0 (d .text)) ⊛ ‵ (rest (D .parts) L 0 fields)) (own-out 𝓤 H A W (D .parts) L 0 fields) $ split ! $ move ! (1 ∷ []) $ drop ! $
-          nothing ! $ owned ! usize (Is usize) (uint-makes 𝓤 H A W w64) (d .at) _ (refl, fits) $ fjoin ! $ move ! (1 ∷ 0 ∷ []) $ fjoin ! $ move ! (2 ∷ 0 ∷ []) $ use2 W (raw (LineAt .pre that)) asked $ frame ! $ done !)
+          move ! (1 ∷ []) $ fsplit ! $ move ! (1 ∷ []) $ drop ! $ use1 W (‵ Own ⊛ ‵ Own) (LL.copy (Parts (κ, tt)) (T′.the-copy (lifetime (κ, tt))) 𝓤 H A W .twice d (mach ∷ [])) $ split ! $
+          use1 W (given (mach ∷ [] ≡ mach ∷ []) (‵ (all-own (Parts (κ, tt) .parts) (laws (κ, tt)) fields))) (own-open 𝓤 H A W (Parts (κ, tt)) (laws (κ, tt)) fields mach) $ learn ! (λ _.
+          use1 W (‵ (ownAt (Parts (κ, tt) .parts) (laws (κ, tt)) 0 (d .text)) ⊛ ‵ (rest (Parts (κ, tt) .parts) (laws (κ, tt)) 0 fields)) (own-out 𝓤 H A W (Parts (κ, tt) .parts) (laws (κ, tt)) 0 fields) $ split ! $ move ! (1 ∷ []) $ drop ! $
+          nothing ! $ number ! (d .at) fits $ fjoin ! $ move ! (1 ∷ 0 ∷ []) $ fjoin ! $ move ! (2 ∷ 0 ∷ []) $ use2 W (raw (LineAt .pre that)) asked $ frame ! $ done !)
 
       -- What the line owns goes out with it.
       exits : (r : RefT (List ℕ)) (u : Val) → now r ≡ wanted → ent 𝓤 (⋆ 𝓤 H A (‵ (Text κ .own r (u ∷ [])) ∷ token κ q ∷ ‵ Own ∷ [])) (Post u)
@@ -152,9 +140,9 @@ module _ {M : Type 1} (𝓤 : URA M) (H : Heap 𝓤) (A : Atoms 𝓤) (W : Given
     meets =
         walk-meets 𝓤 H A line.ended unsaid W (goes-none 𝓤 H A W 1 Cursor yes (λ κs x f. refl), tt) clauses runs (WpFn-mono 𝓤 H (W .laws) 𝓣 code.function)
         (walked 𝓤 H A line.ended unsaid clauses runs
-        (λ κs. (LL.vals (T.the-type (lifetime κs)) (T′.the-laws (lifetime κs)), tt)) (λ κs. (LL.tells (T.the-type (lifetime κs)) (T′.the-laws (lifetime κs)), tt))
+        (λ κs. (LL.vals (Parts κs) (laws κs), tt)) (λ κs. (LL.tells (Parts κs) (laws κs), tt))
         (λ κs qs bounds a g are.
-        via 𝓤 _ (fst∗ 𝓤 _ (emp 𝓤)) (walk (κs .0) (qs .0) (a .0) (LL.lawful (T.the-type (lifetime κs)) (T′.the-laws (lifetime κs)) 𝓤 H A W .typed (a .0) _ (are .0) .0))))
+        via 𝓤 _ (fst∗ 𝓤 _ (emp 𝓤)) (walk (κs .0) (qs .0) (a .0) (LL.lawful (Parts κs) (laws κs) 𝓤 H A W .typed (a .0) _ (are .0) .0))))
 
 -- The contract of the function itself.
 pub line-spec : {M : Type 1} → stated.statement M

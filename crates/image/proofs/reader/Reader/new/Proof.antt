@@ -19,11 +19,11 @@ use types.Run.{look, init, forget, stop, from, load, and-then, no-more, assigns,
 use sound.WpLaws.{WpFn-mono}
 use denote.RattleType.{owns}
 use denote.Laws.{Is}
-use denote.Plain.{uint-vals, uint-tells, uint-makes}
+use denote.Plain.{uint-vals, uint-tells}
 use denote.Builtin.{u8, usize}
 use denote.Ref.{RefT}
 use denote.Slice.{slice-vals, shr-slice-tells, shr-slice-lawful, shr-slice-copy}
-use denote.Steps.{nothing, owned}
+use denote.Steps.{nothing}
 use denote.Struct.Rest.{own-shut}
 use denote.Triple.Clauses.{Clauses}
 use denote.Triple.Entry.{Vals, onEntry}
@@ -31,8 +31,7 @@ use denote.Triple.Spec.{Meets, tripleOf}
 use denote.Triple.Table.{entered}
 use denote.Triple.Walked.{says, walkOf, ends-at, walked, walk-meets}
 use Rattle.image.specs.declared.reader.Reader.{Reader}
-use Rattle.image.proofs.reader.Cursor.{lifetime, Text, machine, unsaid, unsaid-goes, token}
-use Rattle.image.proofs.reader.Reader as T
+use Rattle.image.proofs.reader.Cursor.{Parts, laws, Text, machine, unsaid, unsaid-goes, token, number}
 use Rattle.image.proofs.reader.Reader.Laws as T′
 use Rattle.image.proofs.reader.Reader.new.Key.{name as #image·new}
 use Rattle.image.proofs.reader.Reader.new as new
@@ -79,7 +78,7 @@ module _ {M : Type 1} (𝓤 : URA M) (H : Heap 𝓤) (A : Atoms 𝓤) (W : Given
         qed W (token κ q ∷ ‵ (owns (Text κ ∷ usize ∷ []) (s, (n, tt)) passed) ∷ []) ∵
         suffices ! _ (ends-at 𝓤 H A new.ended unsaid clauses W this (T′.lowered made) made (tt, (tt, tt)) (tt, (tt, tt))) $ says ! (refl, refl) $
         frame ! $ fsplit ! $ use1 W (‵ Own ⊛ ‵ Own) (shr-slice-copy 𝓤 H A W (named 0) κ u8 .twice s (machine s ∷ [])) $ split ! $ move ! (0 ∷ 2 ∷ []) $ fjoin ! $ frame ! $
-        nothing ! $ owned ! usize (Is usize) (uint-makes 𝓤 H A W w64) n _ (refl, ok) $ fjoin ! $ move ! (1 ∷ 0 ∷ []) $ fjoin ! $ by ! (own-shut 𝓤 H A W (T.the-type (lifetime (κ, tt))) (T′.the-laws (lifetime (κ, tt))) (s, (n, tt)))
+        nothing ! $ number ! n ok $ fjoin ! $ move ! (1 ∷ 0 ∷ []) $ fjoin ! $ by ! (own-shut 𝓤 H A W (Parts (κ, tt)) (laws (κ, tt)) (s, (n, tt)))
 
     -- From entry to exit, statement by statement.
     walk : ent 𝓤 Pre (runs (machine s ∷ vint w64 n ∷ []) Post)
