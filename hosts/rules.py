@@ -1,4 +1,4 @@
-"""What the scripts for the trial programs share: rules, and how lines and answers are written."""
+"""What the scripts for the test programs share: rules, and how lines and answers are written."""
 import bisect
 import os
 import re

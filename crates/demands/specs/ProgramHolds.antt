@@ -7,8 +7,7 @@ use native.Mathlib.Nat.{le-refl, div-le-self}
 use native.Mathlib.Decide.{ℕ-discrete}
 use native.Mathlib.Omega.{arith}
 use contract.Lifetimes.{Lfts}
-use lib.ListN.{length, take, replicate}
-use lib.Dec.{lit≤}
+use lib.ListN.{length, take}
 use borrow.Author.Tests.{le-leb, eq-eqb, ne-eqb}
 use Rattle.layout.specs.Limits.{maxWords, maxKeep, maxRoots, within, suits, mapWords, stackWords, listRoom, listWords}
 use Rattle.freelist.specs.Records.{records}
@@ -24,7 +23,6 @@ use Rattle.demands.specs.Reach.{Sound}
 use Rattle.demands.specs.Lent.{Lent}
 use Rattle.demands.specs.Demand2Holds.{demand-2}
 use Rattle.demands.specs.World.{World, collectsOn, newWorld, effect}
-use Rattle.demands.specs.Stands.{Stands}
 use Rattle.demands.specs.StandsLaws.{rerooted, stands-surveyed}
 use Rattle.demands.specs.Demand3SetUpHolds.{set-up-left, set-up-stands}
 use Rattle.demands.specs.Demand3CollectHolds.{sound-succeeds, sound-finds, sound-stands}

@@ -1,4 +1,4 @@
-// Trials of the free list. A line gives words, keep, a, s, the count, and the records; what it does not give is 9.
+// Lines about the free list. A line gives words, keep, a, s, the count, and the records; what it does not give is 9.
 use freelist::Figures;
 use freelist::records;
 use freelist::search;

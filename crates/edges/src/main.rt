@@ -1,4 +1,4 @@
-// Trials: the proved code run on the lines of standard input, one trial a line, and what came printed behind it.
+// Edges: the proved code run on the lines of standard input, and what came printed behind each.
 mod buffer;
 mod lists;
 mod rows;

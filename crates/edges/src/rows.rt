@@ -1,4 +1,4 @@
-// The trials: the first letter of a line says which. r asks for room figures, s for a set-up, any other is for the list.
+// The lines: the first letter of each says what it tries. r asks for room figures, s for a set-up, any other is for the list.
 use crate::buffer;
 use crate::lists;
 use layout::Rooms;

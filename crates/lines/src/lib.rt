@@ -1,4 +1,4 @@
-// Lines of numbers, read and printed: what the trial programs share.
+// Lines of numbers, read and printed: what the test programs share.
 use libc::STDOUT_FILENO;
 use words::wide;
 ghost use Prim.Native.Nat.{_<_, _≤_};

@@ -25,19 +25,20 @@ countLines c f =
     codeLines 0 0 ++ said (ascii "objects=") (c .objects) ++ said (ascii "live=") (c .live) ++ said (ascii "references=") (c .references) ++ said (ascii "peak=") (c .peak)
     ++ said (ascii "listed=") (f .listed) ++ said (ascii "largest=") (f .largest) ++ said (ascii "fragment=") (f .fragment)
 
--- What is printed once a collection has answered: a refusal, or the counts, the figures of a survey, and the free list.
-unfoldable pub linesAfter : Left → List ℕ
-linesAfter c =
-    let s : Surveyed = surveys (c .answer .state) (c .list) in
-    unless (eqb (c .answer .code) 0) (codeLines (c .answer .code) (c .answer .place))
+-- What is printed once a collection has answered and left a list: a refusal, or the counts, the figures of a survey, and the free list.
+unfoldable pub linesAfter : Collected → List ℕ → List ℕ
+linesAfter c list =
+    let s : Surveyed = surveys (c .state) list in
+    unless (eqb (c .code) 0) (codeLines (c .code) (c .place))
     (unless (eqb (s .code) 0) (codeLines (s .code) 0)
-    (countLines (c .answer) (s .figures) ++ freeLines (records (c .answer .state .count) (c .list))))
+    (countLines c (s .figures) ++ freeLines (records (c .state .count) list)))
 
 -- What is printed for an image: set-up and collection in lent buffers, and then a survey.
 unfoldable pub imageLinesIn : List ℕ → ℕ → List ℕ → List ℕ → List ℕ → List ℕ → List ℕ
 imageLinesIn heap t roots map stack list =
     let fresh : Prepared = setsUp heap t map list in
-    linesAfter (collects (fresh .answer .state) heap roots (fresh .map) stack (fresh .list))
+    let c : Left = collects (fresh .answer .state) heap roots (fresh .map) stack (fresh .list) in
+    linesAfter (c .answer) (c .list)
 
 -- The program's map, clear, and long enough for 4,096 words.
 abbrev pub clearMap : List ℕ

@@ -2,28 +2,22 @@
 use Prim.Native.Nat.{ℕ, _-_, _*_, _≤_, _<_}
 use mathlib.Core.Path.{_≡_, refl, sym, _∙_, ap, subst}
 use mathlib.Core.Logic.{_≢_}
-use mathlib.Core.Bool.{_&&_}
 use mathlib.Core.List.{List, _++_}
-use native.Mathlib.Nat.{div-le-self}
 use native.Mathlib.Omega.{arith}
-use lib.ListN.{length, take, drop, replicate, length-append}
+use lib.ListN.{length, take, drop, length-append}
 use lib.Seq.{take-at}
-use lib.Dec.{leb, eqb, lit<}
-use borrow.Author.Tests.{le-leb, lt-leb, leb-true, eqb-true, eq-eqb, ne-eqb}
-use Rattle.layout.specs.Limits.{maxRoots, within, suits, mapWords, stackWords, listRoom, listWords}
+use lib.Dec.{leb, eqb}
+use borrow.Author.Tests.{le-leb, lt-leb, eqb-true, eq-eqb, ne-eqb}
 use Rattle.layout.specs.LimitsLaws.{list-small}
-use Rattle.layout.specs.Refusal.{unless}
-use Rattle.layout.specs.RefusalLaws.{by-test, no-refusal}
+use Rattle.layout.specs.RefusalLaws.{by-test}
 use Rattle.layout.specs.SetUp.{Prepared, prepared, setsUp}
 use Rattle.layout.specs.declared.SetUp.{SetUp}
 use Rattle.layout.specs.declared.State.{State}
-use Rattle.runs.specs.Lists.{Ordered}
-use Rattle.marking.specs.Marking.{Outcome, going, done, refused, collection}
 use Rattle.collector.specs.CollectLaws.{collects-words}
-use Rattle.collector.specs.Collect.{Left, left, settles, collectsIn, collects}
+use Rattle.collector.specs.Collect.{Left, left, collects}
 use Rattle.collector.specs.declared.Collected.{Collected}
-use Rattle.freelist.specs.Records.{records, validList}
-use Rattle.freelist.specs.RecordsLaws.{length-records, records-part, valid-ordered}
+use Rattle.freelist.specs.Records.{records}
+use Rattle.freelist.specs.RecordsLaws.{length-records}
 use Rattle.freelist.specs.declared.figures.Figures.{Figures}
 use Rattle.store.specs.Survey.{surveys}
 use Rattle.store.specs.SurveyLaws.{Surveyable, surveyable}
@@ -41,29 +35,34 @@ use Rattle.report.specs.Puts.{puts}
 use Rattle.report.specs.PutsLaws.{puts-fits}
 use Rattle.report.specs.PrintedLaws.{decimals-short, frees-short}
 
--- The ways out, once set-up and collection have answered.
-module _ (heap : List ℕ) (t : ℕ) (roots : List ℕ) {fresh : SetUp} {map list : List ℕ} (e : prepared fresh map list ≡ setsUp heap t clearMap clearList)
-    {found : Collected} {map′ stack′ list′ : List ℕ} (f : left found map′ stack′ list′ ≡ collects (fresh .state) heap roots map clearStack list) where
-  -- A refused collection has its two lines.
-  pub refuses-collection : found .code ≢ 0 → codeLines (found .code) (found .place) ≡ imageLines heap t roots
-  unfolding imageLines imageLinesIn linesAfter
-  refuses-collection some = rw (← e, ← f, ne-eqb (found .code) 0 some)
+-- Once set-up and collection have answered, what is printed goes by the answer and the list.
+pub image-answered : (heap : List ℕ) (t : ℕ) (roots : List ℕ) {fresh : SetUp} {map list : List ℕ} → prepared fresh map list ≡ setsUp heap t clearMap clearList
+    → {found : Collected} {map′ stack′ list′ : List ℕ} → left found map′ stack′ list′ ≡ collects (fresh .state) heap roots map clearStack list → linesAfter found list′ ≡ imageLines heap t roots
+unfolding imageLines imageLinesIn
+image-answered heap t roots e f = rw (← e, ← f)
 
-  module _ (none : found .code ≡ 0) {s : Surveyed} (q : s ≡ surveys (found .state) list′) where
+-- The ways out, once a collection has answered.
+module _ (found : Collected) (list : List ℕ) where
+  -- A refused one has its two lines.
+  pub refuses-collection : found .code ≢ 0 → codeLines (found .code) (found .place) ≡ linesAfter found list
+  unfolding linesAfter
+  refuses-collection some = rw (ne-eqb (found .code) 0 some)
+
+  module _ (none : found .code ≡ 0) {s : Surveyed} (q : s ≡ surveys (found .state) list) where
     -- A refused survey has two lines too.
-    pub refuses-survey : s .code ≢ 0 → codeLines (s .code) 0 ≡ imageLines heap t roots
-    unfolding imageLines imageLinesIn linesAfter
-    refuses-survey some = rw (← e, ← f, ← q, eq-eqb (found .code) 0 none, ne-eqb (s .code) 0 some)
+    pub refuses-survey : s .code ≢ 0 → codeLines (s .code) 0 ≡ linesAfter found list
+    unfolding linesAfter
+    refuses-survey some = rw (← q, eq-eqb (found .code) 0 none, ne-eqb (s .code) 0 some)
 
     module _ (fine : s .code ≡ 0) where
       -- Else all is counted, and each interval has its line.
-      pub counts-all : countLines found (s .figures) ++ freeLines (records (found .state .count) list′) ≡ imageLines heap t roots
-      unfolding imageLines imageLinesIn linesAfter
-      counts-all = rw (← e, ← f, ← q, eq-eqb (found .code) 0 none, eq-eqb (s .code) 0 fine)
+      pub counts-all : countLines found (s .figures) ++ freeLines (records (found .state .count) list) ≡ linesAfter found list
+      unfolding linesAfter
+      counts-all = rw (← q, eq-eqb (found .code) 0 none, eq-eqb (s .code) 0 fine)
 
       -- The intervals are in the list.
-      pub records-lie : 2 * found .state .count ≤ length list′
-      records-lie = let k = surveyable (found .state) list′ (rw q at fine) in omega arith
+      pub records-lie : 2 * found .state .count ≤ length list
+      records-lie = let k = surveyable (found .state) list (rw q at fine) in omega arith
 
 -- Counts and figures, 9 lines of at most 32 bytes, have at most 288.
 count-short : (c : Collected) (f : Figures) → length (countLines c f) ≤ 288
@@ -86,24 +85,24 @@ unfolding ascii
 code-fits code place = simp length-append (omega (arith, decimals-short code, decimals-short place))
 
 -- So do the lines that come after any collection, if one that ends with 0 leaves a state of at most 4,096 words.
-lines-fit : (c : Left) → (c .answer .code ≡ 0 → c .answer .state .words ≤ maxHeap) → length (linesAfter c) ≤ answerRoom
+lines-fit : (c : Collected) (list : List ℕ) → (c .code ≡ 0 → c .state .words ≤ maxHeap) → length (linesAfter c list) ≤ answerRoom
 unfolding linesAfter
-lines-fit c small =
-    let s : Surveyed = surveys (c .answer .state) (c .list) in
+lines-fit c list small =
+    let s : Surveyed = surveys (c .state) list in
     let Fits : List ℕ → Type 0 = λ lines. length lines ≤ answerRoom in
-    by-test Fits (eqb (c .answer .code) 0)
+    by-test Fits (eqb (c .code) 0)
     (λ none. by-test Fits (eqb (s .code) 0)
-    (λ fine. all-fit (c .answer) (s .figures) (c .list) (small (eqb-true (c .answer .code) 0 none)) (surveyable (c .answer .state) (c .list) (eqb-true (s .code) 0 fine)))
+    (λ fine. all-fit c (s .figures) list (small (eqb-true (c .code) 0 none)) (surveyable (c .state) list (eqb-true (s .code) 0 fine)))
     (λ _. code-fits (s .code) 0))
-    (λ _. code-fits (c .answer .code) (c .answer .place))
+    (λ _. code-fits (c .code) (c .place))
 
 -- So does the answer to an image of at most 4,096 words.
 image-fits : (heap : List ℕ) (t : ℕ) (roots : List ℕ) → length heap ≤ maxHeap → length (imageLines heap t roots) ≤ answerRoom
 unfolding imageLines imageLinesIn
 image-fits heap t roots small =
     let fresh : Prepared = setsUp heap t clearMap clearList in
-    lines-fit (collects (fresh .answer .state) heap roots (fresh .map) clearStack (fresh .list))
-    (λ none. omega (arith, collects-words (fresh .answer .state) heap roots (fresh .map) clearStack (fresh .list) none))
+    let c : Left = collects (fresh .answer .state) heap roots (fresh .map) clearStack (fresh .list) in
+    lines-fit (c .answer) (c .list) (λ none. omega (arith, collects-words (fresh .answer .state) heap roots (fresh .map) clearStack (fresh .list) none))
 
 -- The heap of an image has at most 4,096 words, so the answer to any text fits.
 pub answer-fits : (text : List ℕ) → length (answer text) ≤ answerRoom

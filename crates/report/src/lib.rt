@@ -10,7 +10,7 @@ ghost use mathlib.Core.Path.{_≡_};
 ghost use Prim.Native.Nat.{_*_, _≤_};
 ghost use lib.ListN.{length};
 ghost use Rattle.freelist.specs.Records.{records};
-ghost use Rattle.report.specs.Answer.{codeLines, countLines, imageLines, output, reports};
+ghost use Rattle.report.specs.Answer.{codeLines, countLines, linesAfter, imageLines, output, reports};
 ghost use Rattle.report.specs.Printed.{freeLines};
 ghost use Rattle.report.specs.Puts.{puts};
 
@@ -36,7 +36,7 @@ pub fn answer(text: &[u8], out: &mut [u8]) -> usize
     }
 }
 
-// Sets up, collects, surveys, and prints what was found.
+// Sets up, collects, and prints what was found.
 fn image_lines(heap: &[u32], keep: usize, roots: &[u32], out: &mut [u8]) -> usize
     ensures { λ r. ⌜ output r (now (out .exit)) ≡ puts 0 (imageLines (now (heap .entry)) keep (now (roots .entry))) (now (out .entry)) ⌝ }
 {
@@ -45,16 +45,23 @@ fn image_lines(heap: &[u32], keep: usize, roots: &[u32], out: &mut [u8]) -> usiz
     let mut list = [0u32; 8190];
     let fresh = State::set_up(heap, keep, &mut map, &mut list);
     let found = collector::collect(fresh.state, heap, roots, &mut map, &mut stack, &mut list);
+    lines_after(found, &list, out)
+}
+
+// Prints what a collection has answered, and surveys the list that it left.
+fn lines_after(found: Collected, list: &[u32], out: &mut [u8]) -> usize
+    ensures { λ r. ⌜ output r (now (out .exit)) ≡ puts 0 (linesAfter found (now (list .entry))) (now (out .entry)) ⌝ }
+{
     if found.code != 0 {
         return code_lines(out, found.code as usize, found.place);
     }
     let state = found.state;
-    let surveyed = store::survey(state, &list);
+    let surveyed = store::survey(state, list);
     if surveyed.code != 0 {
         return code_lines(out, surveyed.code as usize, 0);
     }
     let at = count_lines(out, found, surveyed.figures);
-    free_lines(out, at, &list, state.count)
+    free_lines(out, at, list, state.count)
 }
 
 // Prints code and where, the lines that come first.

@@ -1,4 +1,4 @@
-// The book of a group, a number in each place: 0 counts images; 1 to 5 those that gave 0, 4, 5, 6 and any other number; 6 to 9 add
+// The book of a group, a number in each column: 0 counts images; 1 to 5 those that gave 0, 4, 5, 6 and any other number; 6 to 9 add
 // up objects, live words, references and peaks; 10 has the greatest peak, and 11 counts images that differ.
 use collector::Collected;
 use std::num::wrapping_add_usize;
@@ -7,8 +7,8 @@ ghost use Prim.Native.Nat.{_<_, _≤_};
 // The numbers of the book.
 pub(crate) type Book = [usize; 12];
 
-// The place where images are counted that gave such a number.
-fn place(code: u32) -> usize
+// The column where images are counted that gave such a number.
+fn column(code: u32) -> usize
     ensures { λ r. ⌜ r ≤ 5 ⌝ }
 {
     match code {
@@ -20,7 +20,7 @@ fn place(code: u32) -> usize
     }
 }
 
-// Adds to the number in a place.
+// Adds to the number in a column.
 fn add(book: &mut Book, at: usize, n: usize)
     requires { ⌜ at < 12 ⌝ }
 {
@@ -30,7 +30,7 @@ fn add(book: &mut Book, at: usize, n: usize)
 // Notes what a collection answered.
 pub(crate) fn note(book: &mut Book, got: Collected) {
     add(book, 0, 1);
-    add(book, place(got.code), 1);
+    add(book, column(got.code), 1);
     add(book, 6, got.objects);
     add(book, 7, got.live);
     add(book, 8, got.references);

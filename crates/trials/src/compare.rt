@@ -3,6 +3,7 @@
 // image that does not fit.
 use crate::book;
 use crate::book::Book;
+use crate::changes;
 use crate::images;
 use crate::images::Place;
 use crate::marks;
@@ -10,12 +11,13 @@ use crate::sweep;
 use collector::Collected;
 use layout::State;
 ghost use Prim.Native.Nat.{_≤_};
+ghost use lib.ListN.{length};
 
 // As many words as the longest buffer needs, and more.
 pub(crate) type Buffer = [u32; 640];
 
 // The numbers of an answer, the state's among them.
-type Numbers = [usize; 9];
+pub(crate) type Numbers = [usize; 9];
 
 // A buffer with 0 in the needed part and junk behind it.
 fn cleared(needed: usize, junk: u32) -> Buffer {
@@ -30,11 +32,10 @@ fn cleared(needed: usize, junk: u32) -> Buffer {
 }
 
 // What is due: the numbers and, in clear buffers, map and list.
-fn due(heap: &[u32], keep: usize, roots: &[u32], map: &mut Buffer, list: &mut Buffer) -> Numbers {
+fn due(heap: &[u32], keep: usize, roots: &[u32], map: &mut Buffer, list: &mut Buffer) -> Numbers
+    requires { ⌜ length (now heap) ≤ 320 ⌝ }
+{
     let words = heap.len();
-    if 320 < words {
-        return [13; 9];
-    }
     let mut marks = [0; 320];
     let found = marks::meet_roots(heap, keep, roots, &mut marks);
     if found.code != 0 {
@@ -102,7 +103,9 @@ fn differs(
     map: &Buffer,
     stack: &Buffer,
     list: &Buffer,
-) -> usize {
+) -> usize
+    requires { ⌜ length (now heap) ≤ 320 ⌝ }
+{
     let junk = heaps::cut(place[4]);
     let mut due_map = cleared(place[5], junk);
     let due_stack = cleared(place[6], junk);
@@ -135,8 +138,10 @@ fn lent(needed: usize, draw: usize) -> usize
     }
 }
 
-// Collects in buffers full of junk, notes in the book what came, and answers what differs.
-fn collect(place: Place, heap: &[u32], roots: &[u32], book: &mut Book) -> usize {
+// Collects in buffers full of junk, notes in the book what came, changes it if the image says so, and answers what differs.
+fn collect(place: Place, heap: &[u32], roots: &[u32], book: &mut Book) -> usize
+    requires { ⌜ length (now heap) ≤ 320 ⌝ }
+{
     let words = place[1];
     let keep = place[2];
     let count = place[3];
@@ -156,7 +161,9 @@ fn collect(place: Place, heap: &[u32], roots: &[u32], book: &mut Book) -> usize 
         &mut list[..n],
     );
     book::note(book, got);
-    differs(place, heap, roots, &came(got), &map, &stack, &list)
+    let mut numbers = came(got);
+    changes::change(place[19], &mut numbers, &mut map, &mut stack, &mut list);
+    differs(place, heap, roots, &numbers, &map, &stack, &list)
 }
 
 // The same for an image that is laid first.
@@ -166,7 +173,9 @@ fn lay_and_collect(
     heap: &mut [u32],
     roots: &mut [u32],
     book: &mut Book,
-) -> usize {
+) -> usize
+    requires { ⌜ length (now heap) ≤ 320 ⌝ }
+{
     heaps::lay(kind, place, heap, roots);
     images::overwrite(heap, place[14], place[15]);
     collect(place, heap, roots, book)

@@ -1,6 +1,6 @@
 // The images. Places 1 and 2 of an image are words and keep length, 3 a count that a collection ignores, 4 junk, 5 to 7 what is needed
-// of map, stack and list, 8 how many roots there are, 9 to 13 what `heaps` is told, 14 how many words are overwritten, 15 a seed, and 16
-// to 18 say how many words more are lent of map, stack and list.
+// of map, stack and list, 8 how many roots there are, 9 to 13 what `heaps` is told, 14 how many words are overwritten, 15 a seed, 16 to
+// 18 say how many words more are lent of map, stack and list, and 19 what is changed before it is compared, or 0.
 use crate::groups::Group;
 use heaps::below;
 use heaps::cut;
@@ -31,8 +31,13 @@ fn draws(seed: usize) -> Place {
     place
 }
 
+// A seed at another point of the row than x, so that what is drawn from it is not drawn for an image too: x with its halves swapped.
+fn apart(x: usize) -> usize {
+    x % 32768 * 65536 + x / 32768
+}
+
 // An image of a group. `heaps` is told of a random heap how seldom there is damage of each kind; of any other the words of an object,
-// how far behind it the next one starts, one time in eight a word too near, and the references of a fan. Place 47 is the next seed.
+// how far behind it the next one starts, one time in eight a word nearer, and the references of a fan. Place 47 is the next seed.
 pub(crate) fn image(kind: u8, group: Group, seed: usize) -> Place {
     let mut place = draws(seed);
     let words = up_to(place[1], group[0]);
@@ -45,7 +50,10 @@ pub(crate) fn image(kind: u8, group: Group, seed: usize) -> Place {
     place[7] = 2 * stack;
     place[8] = below(place[8], group[2] % 16 + 1);
     place[14] = below(place[14], group[3] % 16 + 1);
+    place[15] = apart(place[15]);
+    place[19] = 0;
     if kind == b'r' {
+        place[9] = apart(place[9]);
         place[10] = group[4];
         place[11] = group[5];
         place[12] = group[6];
@@ -56,6 +64,21 @@ pub(crate) fn image(kind: u8, group: Group, seed: usize) -> Place {
     place[9] = s;
     place[10] = s + below(place[10], group[4] % 16 + 1) - below(place[12], 8) / 7;
     place[11] = keep + below(place[11], 20);
+    place
+}
+
+// A chain of four objects of 4 words with 6 free words behind each: a sound image.
+pub(crate) fn chain() -> Place {
+    let mut place = [0; 48];
+    place[1] = 41;
+    place[2] = 3;
+    place[4] = 7;
+    place[5] = 2;
+    place[6] = 13;
+    place[7] = 26;
+    place[8] = 1;
+    place[9] = 4;
+    place[10] = 10;
     place
 }
 

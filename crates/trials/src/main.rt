@@ -1,5 +1,6 @@
 // Trials: collections of many random images, each compared with what a mark-sweep written separately finds.
 mod book;
+mod changes;
 mod compare;
 mod groups;
 mod images;
@@ -9,7 +10,7 @@ mod sweep;
 // Where the random numbers begin.
 const SEED: usize = 20260716;
 
-// Prints the seed, and tries all groups.
+// Prints the seed, tries all groups, and shows that each comparison can fail.
 fn main() {
     lines::numbers(&[SEED], b"seed ");
     lines::end();
@@ -17,4 +18,5 @@ fn main() {
     for g in 0..17 {
         x = groups::run(g, x);
     }
+    changes::run();
 }

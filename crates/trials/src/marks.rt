@@ -12,7 +12,7 @@ type Later = [usize; 320];
 
 // What has come: the refusal's number or 0, and the reference met; how many references were met, the most intervals at once; and how
 // many objects are put off. The keep length goes with it.
-pub(crate) struct Found {
+pub(crate) struct Marking {
     keep: usize,
     pub(crate) code: usize,
     pub(crate) place: usize,
@@ -22,8 +22,8 @@ pub(crate) struct Found {
 }
 
 // Nothing found, or a refusal.
-fn nothing(keep: usize, code: usize, place: usize) -> Found {
-    Found {
+fn nothing(keep: usize, code: usize, place: usize) -> Marking {
+    Marking {
         keep,
         code,
         place,
@@ -39,7 +39,7 @@ fn number(word: u32) -> usize {
 }
 
 // The same with the peak raised to the intervals that there are now.
-fn peaked(found: Found, marks: &Marks, words: usize) -> Found
+fn peaked(found: Marking, marks: &Marks, words: usize) -> Marking
     requires { ⌜ words ≤ 320 ⌝ }
 {
     let mut list = [0; 640];
@@ -89,7 +89,7 @@ fn mark(marks: &mut Marks, a: usize, end: usize)
 }
 
 // Meets the reference w.
-fn meet(heap: &[u32], marks: &mut Marks, later: &mut Later, found: Found, w: usize) -> Found
+fn meet(heap: &[u32], marks: &mut Marks, later: &mut Later, found: Marking, w: usize) -> Marking
     requires { ⌜ length (now heap) ≤ 320 ⌝ }
 {
     let keep = found.keep;
@@ -122,7 +122,7 @@ fn meet(heap: &[u32], marks: &mut Marks, later: &mut Later, found: Found, w: usi
 }
 
 // Meets the references of the object at a, up to a refusal.
-fn meet_all(heap: &[u32], marks: &mut Marks, later: &mut Later, found: Found, a: usize) -> Found
+fn meet_all(heap: &[u32], marks: &mut Marks, later: &mut Later, found: Marking, a: usize) -> Marking
     requires { ⌜ length (now heap) ≤ 320 ⌝ }
 {
     let mut now = found;
@@ -143,7 +143,7 @@ fn meet_all(heap: &[u32], marks: &mut Marks, later: &mut Later, found: Found, a:
 }
 
 // Meets the references of objects put off until there are none. No more objects are put off than there are words.
-fn meet_later(heap: &[u32], marks: &mut Marks, later: &mut Later, found: Found) -> Found
+fn meet_later(heap: &[u32], marks: &mut Marks, later: &mut Later, found: Marking) -> Marking
     requires { ⌜ length (now heap) ≤ 320 ⌝ }
 {
     let mut now = found;
@@ -163,7 +163,7 @@ fn meet_later(heap: &[u32], marks: &mut Marks, later: &mut Later, found: Found) 
 }
 
 // Meets the roots, and all that is reached from one before the next, up to a refusal.
-pub(crate) fn meet_roots(heap: &[u32], keep: usize, roots: &[u32], marks: &mut Marks) -> Found
+pub(crate) fn meet_roots(heap: &[u32], keep: usize, roots: &[u32], marks: &mut Marks) -> Marking
     requires { ⌜ length (now heap) ≤ 320 ⌝ }
 {
     let mut later = [0; 320];

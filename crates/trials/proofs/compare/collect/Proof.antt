@@ -74,8 +74,14 @@ note-requires c κs = search needs
 came-requires : tie.Need-came-requires
 came-requires c κs = search needs
 
+array-read-change : tie.Need-array-read-change
+array-read-change c = search needs
+
+change-requires : tie.Need-change-requires
+change-requires c κs = search needs
+
 differs-requires : tie.Need-differs-requires
-differs-requires c κs = search needs
+differs-requires c κs = c .before .before .before .before .before .before .before .before .before .before .before .before .before .before .before .before .before .before .before .before .before .before .before .before .before .pre
 
 returns : tie.Need-returns
 returns c = search needs
@@ -107,5 +113,7 @@ collect-spec =
     collect-requires
     note-requires
     came-requires
+    array-read-change
+    change-requires
     differs-requires
     returns)

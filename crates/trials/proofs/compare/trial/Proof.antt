@@ -1,5 +1,6 @@
 -- `compare::trial` is safe: each part lies within its words.
-use mathlib.Core.Path.{sym}
+use Prim.Native.Nat.{ℕ, _≤_}
+use mathlib.Core.Path.{sym, subst}
 use lib.Seq.{length-take-le}
 use borrow.Author.Needs.{needs}
 use Rattle.trials.proofs.compare.trial.Statement.{statement}
@@ -30,7 +31,11 @@ slice-aggregate-lay-and-collect-2 : tie.Need-slice-aggregate-lay-and-collect-2
 slice-aggregate-lay-and-collect-2 c = sym (length-take-le _ _ (array-borrow-prefix-roots (c .before)))
 
 lay-and-collect-requires : tie.Need-lay-and-collect-requires
-lay-and-collect-requires c κs = search needs
+lay-and-collect-requires c κs =
+    subst
+    (λ (n : ℕ). n ≤ 320)
+    (sym (length-take-le _ _ (array-borrow-prefix-heap (c .before .before .before))))
+    (c .before .before .before .before .if1 .left)
 
 returns-3 : tie.Need-returns-3
 returns-3 c = search needs
