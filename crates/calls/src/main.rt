@@ -1,4 +1,6 @@
 // Calls: histories of calls run on the lines of standard input, one call a line, and what came printed behind it.
+#![tactic(auto)]
+
 mod each;
 mod rows;
 

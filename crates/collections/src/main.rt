@@ -1,4 +1,6 @@
 // Collections: `collect` run on the lines of standard input, one collection a line, and what came printed behind it.
+#![tactic(auto)]
+
 mod rows;
 
 use libc::STDIN_FILENO;

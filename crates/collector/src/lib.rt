@@ -1,4 +1,6 @@
 // The public call `collect`.
+#![tactic(auto)]
+
 ghost use Rattle.std.specs.Prelude.{◌≡◌};
 ghost use Rattle.collector.specs.Collect.{left, collect_refused, collects_in, collects, Parts};
 

@@ -1,1 +1,2 @@
 // The demands: definitions and theorems alone, with no code.
+#![tactic(auto)]

@@ -1,4 +1,6 @@
 // Edges: the proved code run on the lines of standard input, and what came printed behind each.
+#![tactic(auto)]
+
 mod buffer;
 mod lists;
 mod rows;

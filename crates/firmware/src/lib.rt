@@ -1,4 +1,6 @@
 // The boundary to C: numbers, and slices of words, which pass as a pointer and a length. All names begin with hx.
+#![tactic(auto)]
+
 mod calls;
 mod lent;
 mod rooms;

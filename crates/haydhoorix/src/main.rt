@@ -1,4 +1,6 @@
 // The text program: an image on standard input, and what a collection of it finds on standard output.
+#![tactic(auto)]
+
 ghost use Rattle.std.specs.Prelude.{◌≤◌, length};
 
 use libc::{STDERR_FILENO, STDIN_FILENO, STDOUT_FILENO};

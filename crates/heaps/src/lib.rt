@@ -1,5 +1,7 @@
 // Heaps to collect: what stands in the heap and in the root list of a trial. The first letter of a line says which: g gives
 // it word by word, r is random, o is a chain onward, b a chain back, any other a fan.
+#![tactic(auto)]
+
 mod random;
 
 ghost use Rattle.std.specs.Prelude.{◌≡◌, ◌≤◌, length};

@@ -1,4 +1,6 @@
 // Histories: a long random history of calls for each line of standard input, and what came of it printed behind the line.
+#![tactic(auto)]
+
 mod book;
 mod choice;
 mod each;

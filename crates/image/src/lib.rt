@@ -1,4 +1,6 @@
 // The text form of an image: lines, decimals, pairs, and the heap and the roots that a text stands for.
+#![tactic(auto)]
+
 mod decimals;
 mod line;
 mod reader;

@@ -1,4 +1,6 @@
 // What a caller lends and hands in: limits, room figures, the state and set_up.
+#![tactic(auto)]
+
 pub mod parts;
 
 ghost use Rattle.std.specs.Prelude.{◌≡◌, true, length};

@@ -1,4 +1,6 @@
 // Lines of numbers, read and printed: what the test programs share.
+#![tactic(auto)]
+
 ghost use Rattle.std.specs.Prelude.{◌<◌, ◌≤◌, length};
 
 use libc::STDOUT_FILENO;

@@ -1,4 +1,6 @@
 // The mark machine in lent words: meets one reference, makes one move, runs to its end.
+#![tactic(auto)]
+
 mod moves;
 mod references;
 

@@ -1,1 +1,2 @@
 // Marking: definitions and laws alone, with no code.
+#![tactic(auto)]

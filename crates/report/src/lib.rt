@@ -1,4 +1,6 @@
 // The text program's answer: what a collection of an image finds, printed, or the number of a refusal.
+#![tactic(auto)]
+
 mod put;
 
 ghost use Rattle.std.specs.Prelude.{◌≡◌, ◌*◌, ◌≤◌, length};

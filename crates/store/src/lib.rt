@@ -1,4 +1,6 @@
 // The public calls on objects and on the list: allot, read, write, survey.
+#![tactic(auto)]
+
 mod allots;
 mod fields;
 mod surveys;

@@ -1,4 +1,6 @@
 // Texts: the text program's answer, run on the texts of standard input, and what it left printed behind each.
+#![tactic(auto)]
+
 mod cases;
 
 ghost use Rattle.std.specs.Prelude.{◌≡◌, length};

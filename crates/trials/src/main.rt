@@ -1,4 +1,6 @@
 // Trials: collections of many random images, each compared with what a mark-sweep written separately finds.
+#![tactic(auto)]
+
 mod book;
 mod changes;
 mod compare;

@@ -1,4 +1,6 @@
 // What single words hold: a number, the parts of a header, the bits of the map.
+#![tactic(auto)]
+
 pub mod bits;
 mod header;
 
