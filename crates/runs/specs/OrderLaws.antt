@@ -30,7 +30,7 @@ sweep_ordered {k} {cov} {e} {at} lo t x k1 t1 th p q g (stretch {l = l} n b u r 
     short ih y = elim (dec_le x (suc b)) [ yes h ↦ ordered_low (omega arith) (ih (suc b) (omega arith) (λ w i i' o. absurd (omega arith))) | no h ↦ ih x (omega arith) (λ w i i' o. g w (omega arith) i' o) ]
 
 -- The end of the sweep is the heap's.
-ordered_high : {k g lo : ℕ} {l : List Interval} (h : ℕ) → 1 ≤ k → 1 ≤ lo → Ordered k g (suc (h - 1)) lo l → Ordered k g h lo l
+ordered_high : {k g : ℕ} (h : ℕ) {lo : ℕ} {l : List Interval} → 1 ≤ k → 1 ≤ lo → Ordered k g (suc (h - 1)) lo l → Ordered k g h lo l
 ordered_high h k1 l1 none = none
 ordered_high h k1 l1 (one {i = i} a b c o) = one {i = i} a b (omega arith) (ordered_high h k1 (omega arith) o)
 
