@@ -1,2 +1,1 @@
 pub mod Collect
-pub mod CollectLaws

@@ -12,10 +12,10 @@ use Rattle.layout.specs.declared.Interval.{Interval}
 use Rattle.layout.specs.declared.SetUp.{SetUp}
 use Rattle.layout.specs.declared.State.{State}
 use Rattle.runs.specs.Lists.{listed}
-use Rattle.runs.specs.SumLaws.{ordered_listed}
+use Rattle.runs.proofs.SumLaws.{ordered_listed}
 use Rattle.marking.specs.Marking.{Marking, Outcome, going, done, refused, collection}
 use Rattle.marking.specs.Numbers.{Word, Words, Counts, Numbers}
-use Rattle.marking.specs.NumbersLaws.{list_short, numbers}
+use Rattle.marking.proofs.NumbersLaws.{list_short, numbers}
 use Rattle.freelist.specs.Figures.{fragment_of, figures_of}
 use Rattle.freelist.specs.FiguresLaws.{largest_listed}
 use Rattle.freelist.specs.Records.{records, valid_list}
@@ -26,7 +26,7 @@ use Rattle.freelist.specs.declared.search.Found.TheVariants.{At, Nothing}
 use Rattle.collector.specs.Collect.{Left, left, collect_refused, settled, settles, collects_in, collects}
 use Rattle.collector.specs.declared.Collected.{Collected}
 use Rattle.store.specs.Allot.{Allotment, allotment, allot_refused, asked_code, placed, allots_in, allots, Parts}
-use Rattle.store.specs.AllotLaws.{Chosen, chosen, ends, front_room}
+use Rattle.store.proofs.AllotLaws.{Chosen, chosen, ends, front_room}
 use Rattle.store.specs.Survey.{surveys}
 use Rattle.store.specs.declared.allots.Allotted.{Allotted}
 use Rattle.store.specs.declared.surveys.Surveyed.{Surveyed}

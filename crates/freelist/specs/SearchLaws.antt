@@ -8,8 +8,8 @@ use Rattle.std.proofs.Math.Decide.{dec_le, ℕ_discrete}
 use borrow.Author.Tests.{le-leb, lt-leb, leb-true, leb-false}
 use Rattle.layout.specs.declared.Interval.{Interval}
 use Rattle.runs.specs.Lists.{interval_at, end, In, Holds, Ordered}
-use Rattle.runs.specs.LongestLaws.{clash}
-use Rattle.runs.specs.OrderLaws.{ordered_apart}
+use Rattle.runs.proofs.LongestLaws.{clash}
+use Rattle.runs.proofs.OrderLaws.{ordered_apart}
 use Rattle.freelist.specs.Records.{record_at, records}
 use Rattle.freelist.specs.RecordsLaws.{length-records, record_at_lem, records_next, records_end}
 use Rattle.freelist.specs.Search.{first_from, fits, fitting, contains, holder, Sorted}

@@ -6,7 +6,7 @@ use mathlib.Mathlib.Data.Bool.Basic.{eq-true_of_not-eq-false}
 use Rattle.std.proofs.Math.Numerals.{add-one}
 use Rattle.std.proofs.Math.ListN.{length-set}
 use Rattle.words.specs.Header.{size_at, well_formed}
-use Rattle.words.specs.HeaderLaws.{Formed, formed}
+use Rattle.words.proofs.HeaderLaws.{Formed, formed}
 use Rattle.words.specs.Map.{bit_at, set_bit}
 use Rattle.layout.specs.LimitsLaws.{bit_inside}
 use Rattle.runs.specs.Lists.{In, Holds, cut}
@@ -19,8 +19,8 @@ use Rattle.split.specs.Relisted.{relisted}
 use Rattle.marking.specs.Marking.{going, marked, overlaps}
 use Rattle.marking.specs.Meets.{New, empty, outside, again, ill_formed, overlapping, apart}
 use Rattle.marking.specs.Invariant.{Room}
-use Rattle.marking.specs.MeetLaws.{overlaps_holds, meets_meet}
-use Rattle.marking.specs.InvariantLaws.{depth_room, objects_room, room_marked}
+use Rattle.marking.proofs.MeetLaws.{overlaps_holds, meets_meet}
+use Rattle.marking.proofs.InvariantLaws.{depth_room, objects_room, room_marked}
 use Rattle.machine.specs.Machine.{pile, Shows, Meeting, noted, Noting, Met}
 use Rattle.machine.specs.PileLaws.{length-pile, pile_push}
 use Rattle.machine.specs.ShowsLaws.{shows_records, shows_room, shows_sorted, shows_fits, shows_taken}

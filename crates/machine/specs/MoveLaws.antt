@@ -5,12 +5,12 @@ use Rattle.std.proofs.Math.Nat.{div-le_self}
 use Rattle.std.proofs.Math.Numerals.{add-one}
 use Rattle.std.proofs.Math.ListN.{drop_of_length-le}
 use Rattle.words.specs.Header.{header_at, fields_of}
-use Rattle.words.specs.HeaderLaws.{Formed}
+use Rattle.words.proofs.HeaderLaws.{Formed}
 use Rattle.words.specs.declared.header.Header.{Header}
 use Rattle.layout.specs.Limits.{max_words, stack_words}
 use Rattle.marking.specs.Marking.{move}
 use Rattle.marking.specs.Invariant.{AllFormed}
-use Rattle.marking.specs.InvariantLaws.{depth_room}
+use Rattle.marking.proofs.InvariantLaws.{depth_room}
 use Rattle.machine.specs.Machine.{pile, Meeting, Met, Ready, Moved}
 use Rattle.machine.specs.PileLaws.{length-pile, pile_none, pile_top}
 use Rattle.machine.specs.declared.Progress.{Progress}

@@ -5,11 +5,11 @@ use Rattle.std.proofs.Math.Path.{refl}
 use Rattle.std.proofs.Common.{sym, ◌∙◌, arith}
 use Rattle.std.proofs.Math.ListN.{length}
 use Rattle.layout.specs.Limits.{map_words}
-use Rattle.runs.specs.FreeListLaws.{list_first}
+use Rattle.runs.proofs.FreeListLaws.{list_first}
 use Rattle.marking.specs.Marking.{going, move, run, begin, collection}
 use Rattle.marking.specs.Invariant.{ahead, Still}
-use Rattle.marking.specs.InvariantLaws.{Less, move_less, begin_holds, begin_ahead}
-use Rattle.marking.specs.RunLaws.{run_done, run_refused}
+use Rattle.marking.proofs.InvariantLaws.{Less, move_less, begin_holds, begin_ahead}
+use Rattle.marking.proofs.RunLaws.{run_done, run_refused}
 use Rattle.machine.specs.Machine.{pile, marking_of, outcome_of, Ready, Moved, Begun, Ran}
 use Rattle.machine.specs.declared.Progress.{Progress}
 use Rattle.machine.specs.declared.Step.{Step}

@@ -6,7 +6,7 @@ use Rattle.words.specs.Map.{set_bit}
 use Rattle.layout.specs.Limits.{list_words}
 use Rattle.runs.specs.Runs.{free_list}
 use Rattle.runs.specs.Lists.{In, cut}
-use Rattle.runs.specs.FreeListLaws.{list_ordered, list_fits, list_cut}
+use Rattle.runs.proofs.FreeListLaws.{list_ordered, list_fits, list_cut}
 use Rattle.freelist.specs.Records.{records}
 use Rattle.freelist.specs.Search.{Sorted}
 use Rattle.freelist.specs.SearchLaws.{ordered_sorted}

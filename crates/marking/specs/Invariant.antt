@@ -2,7 +2,7 @@
 use Prim.{Unit}
 use Rattle.std.specs.Prelude.{ℕ, ◌+◌, ◌-◌, ◌*◌, ◌≤◌, ◌≡◌, List, [], ◌∷◌, ◌++◌, length}
 use Rattle.words.specs.Header.{fields_of}
-use Rattle.words.specs.HeaderLaws.{Formed}
+use Rattle.words.proofs.HeaderLaws.{Formed}
 use Rattle.layout.specs.Limits.{map_words}
 use Rattle.runs.specs.Runs.{free_list}
 use Rattle.runs.specs.Lists.{listed}

@@ -9,14 +9,14 @@ use Rattle.layout.specs.RefusalLaws.{by_test}
 use Rattle.layout.specs.SetUp.{Prepared, prepared, sets_up}
 use Rattle.layout.specs.declared.SetUp.{SetUp}
 use Rattle.layout.specs.declared.State.{State}
-use Rattle.collector.specs.CollectLaws.{collects_words}
+use Rattle.collector.proofs.CollectLaws.{collects_words}
 use Rattle.collector.specs.Collect.{Left, left, collects}
 use Rattle.collector.specs.declared.Collected.{Collected}
 use Rattle.freelist.specs.Records.{records}
 use Rattle.freelist.specs.RecordsLaws.{length-records}
 use Rattle.freelist.specs.declared.figures.Figures.{Figures}
 use Rattle.store.specs.Survey.{surveys}
-use Rattle.store.specs.SurveyLaws.{Surveyable, surveyable}
+use Rattle.store.proofs.SurveyLaws.{Surveyable, surveyable}
 use Rattle.store.specs.declared.surveys.Surveyed.{Surveyed}
 use Rattle.image.specs.Ascii.{ascii}
 use Rattle.image.specs.SoFar.{shows_text, Small, SmallText}

@@ -1,10 +1,3 @@
 pub mod Runs
 pub mod Covers
 pub mod Lists
-pub mod Sweep
-pub mod LongestLaws
-pub mod OrderLaws
-pub mod CutLaws
-pub mod SumLaws
-pub mod CoverLaws
-pub mod FreeListLaws

@@ -11,7 +11,7 @@ use Rattle.layout.specs.declared.Interval.{Interval}
 use Rattle.layout.specs.Intervals.{flat}
 use Rattle.runs.specs.Runs.{kept}
 use Rattle.runs.specs.Lists.{nowhere, interval_at, end, In, sides, cut, without_front}
-use Rattle.runs.specs.Sweep.{kept_cases, kept_long, kept_short}
+use Rattle.runs.proofs.Sweep.{kept_cases, kept_long, kept_short}
 use Rattle.freelist.specs.Records.{record_at, records}
 use Rattle.freelist.specs.RecordsLaws.{length-records, record_at_lem, records_flat}
 use Rattle.split.specs.Relisted.{relisted}

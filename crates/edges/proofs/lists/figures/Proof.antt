@@ -2,7 +2,7 @@
 use Rattle.std.proofs.Common.{arith, rules}
 use Rattle.freelist.specs.RecordsLaws.{valid_ordered}
 use Rattle.layout.specs.LimitsLaws.{limits}
-use Rattle.runs.specs.SumLaws.{ordered_listed}
+use Rattle.runs.proofs.SumLaws.{ordered_listed}
 use Rattle.edges.proofs.lists.figures.Statement.{statement}
 use Rattle.edges.proofs.lists.figures.Tie as tie
 

@@ -4,7 +4,7 @@ use Rattle.freelist.specs.Records.{records}
 use Rattle.freelist.specs.RecordsLaws.{valid_ordered}
 use Rattle.freelist.specs.SearchLaws.{fitting_in}
 use Rattle.layout.specs.LimitsLaws.{limits}
-use Rattle.runs.specs.OrderLaws.{ordered_last}
+use Rattle.runs.proofs.OrderLaws.{ordered_last}
 use Rattle.edges.proofs.lists.front.Statement.{statement}
 use Rattle.edges.proofs.lists.front.Tie as tie
 

@@ -4,7 +4,7 @@ use Rattle.freelist.specs.Records.{records}
 use Rattle.freelist.specs.RecordsLaws.{valid_ordered}
 use Rattle.freelist.specs.SearchLaws.{ordered_sorted, holder_in}
 use Rattle.layout.specs.LimitsLaws.{limits}
-use Rattle.runs.specs.OrderLaws.{cut_fits}
+use Rattle.runs.proofs.OrderLaws.{cut_fits}
 use Rattle.edges.proofs.lists.off.Statement.{statement}
 use Rattle.edges.proofs.lists.off.Tie as tie
 

@@ -3,7 +3,7 @@ use Prim.Native.Nat.{◌≤◌}
 use mathlib.Core.Path.{sym}
 use lib.ListN.{length}
 use lib.Seq.{length-take-le}
-use Rattle.store.specs.AllotLaws.{allot_limits, allot_short, fits, parts, allot_parts}
+use Rattle.store.proofs.AllotLaws.{allot_limits, allot_short, fits, parts, allot_parts}
 use Rattle.store.proofs.allots.allot.Goals as goal
 use Rattle.store.proofs.allots.allot.Goals.{Else-not-m-map}
 

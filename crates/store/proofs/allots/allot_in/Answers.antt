@@ -1,5 +1,5 @@
 -- `allot_in`: each way out is a law of `allots_in`.
-use Rattle.store.specs.AllotLaws.{Ready, Chosen, ready, chosen, allot_refused_lem, allot_full, record_asks, front_asks, lay_asks, bit_asks, allot_placed}
+use Rattle.store.proofs.AllotLaws.{Ready, Chosen, ready, chosen, allot_refused_lem, allot_full, record_asks, front_asks, lay_asks, bit_asks, allot_placed}
 use Rattle.store.proofs.allots.allot_in.Goals as goal
 use Rattle.store.proofs.allots.allot_in.Goals.{Else-code-ne0, In-At}
 

@@ -1,5 +1,5 @@
 -- `asked_code`: its tests, in their order, are those of `asked_code`.
-use Rattle.store.specs.AllotLaws.{asked_list, asked_numbers, asked_none}
+use Rattle.store.proofs.AllotLaws.{asked_list, asked_numbers, asked_none}
 use Rattle.store.proofs.allots.asked_code.Goals as goal
 
 pub returns-then-not-are_valid : goal.returns-then-not-are_valid

@@ -3,7 +3,7 @@ use Prim.Native.Nat.{ℕ, ◌+◌, ◌-◌}
 use mathlib.Core.Path.{◌≡◌}
 use mathlib.Core.List.{List}
 use lib.ListN.{length, take, drop, set, replicate}
-use Rattle.store.specs.ObjectLaws.{laid}
+use Rattle.store.proofs.ObjectLaws.{laid}
 use Rattle.store.proofs.allots.lay.Goals as goal
 
 pub returns : goal.returns

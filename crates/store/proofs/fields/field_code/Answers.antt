@@ -1,5 +1,5 @@
 -- `field_code`: its tests, in their order, are those of `field_code`.
-use Rattle.store.specs.FieldsLaws.{code_limits, code_map, code_object, enough_bits}
+use Rattle.store.proofs.FieldsLaws.{code_limits, code_map, code_object, enough_bits}
 use Rattle.store.proofs.fields.field_code.Goals as goal
 
 pub returns-then-not-m-heap : goal.returns-then-not-m-heap

@@ -3,11 +3,11 @@ use mathlib.Core.Path.{◌≡◌, sym, ◌∙◌}
 use mathlib.Core.Bool.{true}
 use native.Mathlib.Omega.{arith}
 use lib.ListN.{length}
-use Rattle.words.specs.HeaderLaws.{formed}
+use Rattle.words.proofs.HeaderLaws.{formed}
 use Rattle.words.specs.Header.{well_formed}
-use Rattle.words.specs.MapLaws.{start}
+use Rattle.words.proofs.MapLaws.{start}
 use Rattle.words.specs.Map.{is_start}
-use Rattle.store.specs.FieldsLaws.{no_start, bad_header, no_field, has_field}
+use Rattle.store.proofs.FieldsLaws.{no_start, bad_header, no_field, has_field}
 use Rattle.store.proofs.fields.object_code.Goals as goal
 use Rattle.store.proofs.fields.object_code.Goals.{Else-not-is_formed, Else-not-is_start}
 

@@ -1,6 +1,6 @@
 -- `read`: a field that is not refused lies in the heap.
 use native.Mathlib.Omega.{arith}
-use Rattle.store.specs.FieldsLaws.{Field, field, read_refused, read_given}
+use Rattle.store.proofs.FieldsLaws.{Field, field, read_refused, read_given}
 use Rattle.store.proofs.fields.read.Goals as goal
 use Rattle.store.proofs.fields.read.Goals.{Else-code-ne0}
 

@@ -1,6 +1,6 @@
 -- `write`: a field that is not refused lies in the heap, and each way out is a law of `writes`.
 use native.Mathlib.Omega.{arith}
-use Rattle.store.specs.FieldsLaws.{Field, field, write_refused, write_untaken, write_stored}
+use Rattle.store.proofs.FieldsLaws.{Field, field, write_refused, write_untaken, write_stored}
 use Rattle.store.proofs.fields.write.Goals as goal
 use Rattle.store.proofs.fields.write.Goals.{Else-code-ne0}
 

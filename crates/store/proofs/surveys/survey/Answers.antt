@@ -1,7 +1,7 @@
 -- `survey`: each way out is a law of `surveys`.
 use mathlib.Core.Path.{sym, ◌∙◌}
 use lib.Seq.{length-take-le}
-use Rattle.store.specs.SurveyLaws.{survey_limits, survey_short, survey_part, survey_list, survey_asks, survey_figures}
+use Rattle.store.proofs.SurveyLaws.{survey_limits, survey_short, survey_part, survey_list, survey_asks, survey_figures}
 use Rattle.store.proofs.surveys.survey.Goals as goal
 
 pub returns-then-rooms-eq0 : goal.returns-then-rooms-eq0

@@ -1,5 +1,5 @@
 -- `bits::set`: joining the bit's power of two to the word sets the bit.
-use Rattle.words.specs.MapLaws.{shift_sets}
+use Rattle.words.proofs.MapLaws.{shift_sets}
 use Rattle.words.proofs.bits.set.Goals as goal
 
 pub returns : goal.returns

@@ -1,6 +1,6 @@
 -- `Header::is_formed`: the tests are those of the definition, and the sum is small.
 use native.Mathlib.Omega.{arith}
-use Rattle.words.specs.HeaderLaws.{size_small}
+use Rattle.words.proofs.HeaderLaws.{size_small}
 use Rattle.words.specs.Header.{well_formed}
 use Rattle.words.proofs.header.Header.is_formed.Goals as goal
 

@@ -1,0 +1,140 @@
+-- The contract of each public function settles its outcome: it is that of the function's definition, whatever is lent.
+use Prim.{Unit}
+use Rattle.std.specs.Prelude.{ℕ, ◌≡◌, refl, ◌↔◌}
+use Rattle.std.proofs.Common.{sym, ◌∙◌}
+use contract.Lifetimes.{Lfts}
+use Rattle.layout.specs.Limits.{rooms_of}
+use Rattle.layout.specs.LimitsLaws.{map_zero}
+use Rattle.layout.specs.SetUp.{Prepared, sets_up}
+use Rattle.layout.specs.declared.State.{State}
+use Rattle.collector.specs.Collect.{Left, collects}
+use Rattle.store.specs.Allot.{Allotment, allots}
+use Rattle.store.specs.Fields.{reads, Written, writes}
+use Rattle.store.specs.Survey.{surveys}
+use Rattle.store.specs.declared.fields.Reading.{Reading}
+use Rattle.store.specs.declared.surveys.Surveyed.{Surveyed}
+use Rattle.report.specs.Answer.{Output, reports}
+use Rattle.demands.specs.Lent.{Lent}
+use Rattle.demands.specs.Demand1.{SetUpEnds, AllotEnds, ReadEnds, WriteEnds, SurveyEnds, CollectEnds}
+use Rattle.demands.proofs.Demand1Holds.{set_up_ends, survey_ends, read_ends, write_ends}
+use Rattle.demands.proofs.Demand1AllotHolds.{allot_ends}
+use Rattle.demands.proofs.Demand1CollectHolds.{collect_ends}
+use Rattle.demands.specs.Demand2.{Demand2}
+use Rattle.demands.proofs.Demand2Holds.{demand_2}
+use Rattle.demands.specs.Sameness.{Contract, Settles, Loan, rooms_contract, hx_map_contract, hx_stack_contract, hx_list_contract, set_up_contract, set_up_end, collect_contract, collect_end, allot_contract, read_contract, read_end, write_contract, write_end, survey_contract, survey_end, answer_contract, answer_end}
+
+-- A contract whose demands are met, and that allows just one outcome, settles it.
+settles : {A : Type 0} {contract : Contract A} {outcome : A} → contract.asks → ((x : A) → contract.allows x ↔ (x ≡ outcome)) → Settles contract outcome
+settles free just = record { free = free; just = just; same = λ x y p q. (just x).0 p ∙ sym ((just y).0 q) }
+
+-- A contract that asks nothing and names its outcome settles it.
+pub named : {A : Type 0} {outcome : A} → Settles (record { asks = Unit; allows = λ x. x ≡ outcome }) outcome
+named = settles tt (λ x. (λ e. e, λ e. e))
+
+-- What holds of the settled outcome holds of every outcome that the contract allows.
+pub carries : {A : Type 0} {contract : Contract A} {outcome : A} → Settles contract outcome → (P : A → Type 0) → P outcome → (x : A) → contract.allows x → P x
+carries s P held x allowed = rw ((s.just x).0 allowed) held
+
+module _ (κs : Lfts 0) (words keep : ℕ) where
+  -- The contract of `Rooms::of` allows just the room figures.
+  pub rooms_settled : Settles (rooms_contract κs words keep) (rooms_of words keep)
+  rooms_settled = named
+
+  -- That of `hx_map_words` allows just the map's.
+  pub hx_map_settled : Settles (hx_map_contract κs words keep) (rooms_of words keep).map
+  hx_map_settled = settles tt (λ x. (λ e. e.0, λ e. (e, λ z. map_zero words keep refl (sym e ∙ z))))
+
+  -- That of `hx_stack_words` allows just the stack's.
+  pub hx_stack_settled : Settles (hx_stack_contract κs words keep) (rooms_of words keep).stack
+  hx_stack_settled = named
+
+  -- That of `hx_list_words` allows just the list's.
+  pub hx_list_settled : Settles (hx_list_contract κs words keep) (rooms_of words keep).list
+  hx_list_settled = named
+
+module _ (κs : Lfts 3) (heap : Loan) (keep : ℕ) (map list : Loan) where
+  -- The contract of set_up allows just what its definition gives.
+  pub set_up_settled : Settles (set_up_contract κs heap keep map list) (sets_up heap.now keep map.now list.now)
+  set_up_settled = named
+
+  -- Demand 1 holds of every outcome that it allows.
+  pub set_up_demand_1 : (x : Prepared) → (set_up_contract κs heap keep map list).allows x → SetUpEnds heap.now keep map.now list.now x
+  set_up_demand_1 = carries set_up_settled (SetUpEnds heap.now keep map.now list.now) (set_up_ends heap.now keep map.now list.now)
+
+  -- It leaves the heap as it was lent.
+  pub set_up_unwritten : (x : Prepared) → (set_up_end κs heap keep map list x).0 ≡ heap
+  set_up_unwritten x = refl
+
+module _ (κs : Lfts 5) (state : State) (heap roots map stack list : Loan) where
+  -- The contract of collect allows just what its definition gives.
+  pub collect_settled : Settles (collect_contract κs state heap roots map stack list) (collects state heap.now roots.now map.now stack.now list.now)
+  collect_settled = named
+
+  -- Demand 1 holds of every outcome that it allows.
+  pub collect_demand_1 : (x : Left) → (collect_contract κs state heap roots map stack list).allows x → CollectEnds state heap.now roots.now map.now stack.now list.now x
+  collect_demand_1 = carries collect_settled (CollectEnds state heap.now roots.now map.now stack.now list.now) (collect_ends state heap.now roots.now map.now stack.now list.now)
+
+  -- Demand 2 holds of every outcome that it allows within the limits.
+  pub collect_demand_2 : Lent state heap.now roots.now map.now stack.now list.now → (x : Left) → (collect_contract κs state heap roots map stack list).allows x → Demand2 heap.now state.keep roots.now x
+  collect_demand_2 lent = carries collect_settled (Demand2 heap.now state.keep roots.now) (demand_2 state heap.now roots.now map.now stack.now list.now lent)
+
+  -- It leaves heap and roots as they were lent.
+  pub collect_unwritten : (x : Left) → let e = collect_end κs state heap roots map stack list x in (e.1.0 ≡ heap) × (e.1.1.0 ≡ roots)
+  collect_unwritten x = (refl, refl)
+
+module _ (κs : Lfts 3) (state : State) (heap map list : Loan) (s p : ℕ) where
+  -- The contract of allot allows just what its definition gives.
+  pub allot_settled : Settles (allot_contract κs state heap map list s p) (allots state heap.now map.now list.now s p)
+  allot_settled = named
+
+  -- Demand 1 holds of every outcome that it allows.
+  pub allot_demand_1 : (x : Allotment) → (allot_contract κs state heap map list s p).allows x → AllotEnds state heap.now map.now list.now x
+  allot_demand_1 = carries allot_settled (AllotEnds state heap.now map.now list.now) (allot_ends state heap.now map.now list.now s p)
+
+module _ (κs : Lfts 2) (state : State) (heap map : Loan) (a k : ℕ) where
+  -- The contract of read allows just what its definition gives.
+  pub read_settled : Settles (read_contract κs state heap map a k) (reads state heap.now map.now a k)
+  read_settled = named
+
+  -- Demand 1 holds of every outcome that it allows.
+  pub read_demand_1 : (x : Reading) → (read_contract κs state heap map a k).allows x → ReadEnds x
+  read_demand_1 = carries read_settled ReadEnds (read_ends state heap.now map.now a k)
+
+  -- It leaves heap and map as they were lent.
+  pub read_unwritten : let e = read_end κs state heap map a k in (e.1.0 ≡ heap) × (e.1.1.0 ≡ map)
+  read_unwritten = (refl, refl)
+
+  module _ (v : ℕ) where
+    -- The contract of write allows just what its definition gives.
+    pub write_settled : Settles (write_contract κs state heap map a k v) (writes state heap.now map.now a k v)
+    write_settled = named
+
+    -- Demand 1 holds of every outcome that it allows.
+    pub write_demand_1 : (x : Written) → (write_contract κs state heap map a k v).allows x → WriteEnds heap.now x
+    write_demand_1 = carries write_settled (WriteEnds heap.now) (write_ends state heap.now map.now a k v)
+
+    -- It leaves the map as it was lent.
+    pub write_unwritten : (x : Written) → (write_end κs state heap map a k v x).1.1.0 ≡ map
+    write_unwritten x = refl
+
+module _ (κs : Lfts 1) (state : State) (list : Loan) where
+  -- The contract of survey allows just what its definition gives.
+  pub survey_settled : Settles (survey_contract κs state list) (surveys state list.now)
+  survey_settled = named
+
+  -- Demand 1 holds of every outcome that it allows.
+  pub survey_demand_1 : (x : Surveyed) → (survey_contract κs state list).allows x → SurveyEnds x
+  survey_demand_1 = carries survey_settled SurveyEnds (survey_ends state list.now)
+
+  -- It leaves the list as it was lent.
+  pub survey_unwritten : (survey_end κs state list).1.0 ≡ list
+  survey_unwritten = refl
+
+module _ (κs : Lfts 2) (text out : Loan) where
+  -- The contract of the text program's `answer` allows just what its definition gives.
+  pub answer_settled : Settles (answer_contract κs text out) (reports text.now out.now)
+  answer_settled = named
+
+  -- It leaves the text as it was lent.
+  pub answer_unwritten : (x : Output) → (answer_end κs text out x).0 ≡ text
+  answer_unwritten x = refl

@@ -1,0 +1,4 @@
+pub mod InvariantLaws
+pub mod MeetLaws
+pub mod NumbersLaws
+pub mod RunLaws

@@ -1,0 +1,4 @@
+pub mod AllotLaws
+pub mod FieldsLaws
+pub mod ObjectLaws
+pub mod SurveyLaws

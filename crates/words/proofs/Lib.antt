@@ -1,0 +1,3 @@
+pub mod CoverLaws
+pub mod HeaderLaws
+pub mod MapLaws
