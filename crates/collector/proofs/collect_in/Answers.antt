@@ -6,19 +6,19 @@ use Rattle.collector.proofs.collect_in.Goals as goal
 use Rattle.collector.proofs.collect_in.Goals.{After-run-end}
 
 -- The run keeps the lengths of map and list.
-long-map : (c : After-run-end) → length c.run-end.new.1.1.1.0 ≡ length c.args.map.now
-long-map c = c.run-end.auto.1.1.1.0 ∙ c.clear.auto.0
+long-map : (c : After-run-end) → length c.run-end.new.map ≡ length c.args.map.now
+long-map c = c.run-end.auto.map ∙ c.clear.auto.part
 
-long-list : (c : After-run-end) → length c.run-end.new.1.1.1.1.1.0 ≡ length c.args.list.now
-long-list c = c.run-end.auto.1.1.1.1.1.0 ∙ c.first_list-count.auto.1.1.0
+long-list : (c : After-run-end) → length c.run-end.new.list ≡ length c.args.list.now
+long-list c = c.run-end.auto.list ∙ c.first_list-count.auto.list
 
 pub run-end-requires : goal.run-end-requires
 run-end-requires c = begun c.requires c.clear.ensures c.first_list-count.ensures.value c.first_list-count.ensures.list_after
 
 pub returns-in-Done : goal.returns-in-Done
 returns-in-Done c =
-    leaves_done c.requires c.run.ensures c.run.auto.1.1.1.1.0 c.clear-2.ensures c.in-Done.is
+    leaves_done c.requires c.run-end.ensures c.run-end.auto.stack c.clear-2.ensures c.in-Done.is
 
 pub returns-in-Refused : goal.returns-in-Refused
 returns-in-Refused c =
-    leaves_refused c.requires c.run.ensures c.run.auto.1.1.1.1.0 c.clear-2.ensures c.in-Refused.is (long-map (goal.at.returns-in-Refused c).After-run-end) c.clear-in-Refused.ensures (long-list (goal.at.returns-in-Refused c).After-run-end) c.clear-in-Refused-2.ensures c.refused.ensures
+    leaves_refused c.requires c.run-end.ensures c.run-end.auto.stack c.clear-2.ensures c.in-Refused.is (long-map (goal.at.returns-in-Refused c).After-run-end) c.clear-in-Refused.ensures (long-list (goal.at.returns-in-Refused c).After-run-end) c.clear-in-Refused-2.ensures c.refused.ensures
