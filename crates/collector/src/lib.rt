@@ -11,7 +11,7 @@ use machine::Ended;
 const MAX_ROOTS: usize = 65536;
 
 // What a collection answers: the refusal's number or 0, and the reference that it names; objects marked, live words, references read, peak; and the state.
-#[derive(Drop)]
+#[derive(Clone, Copy)]
 pub struct Collected {
     pub code: u32,
     pub place: usize,

@@ -6,7 +6,7 @@ ghost use Rattle.freelist.specs.Search.{Sorted, fitting, holder};
 use crate::records;
 
 // What a search finds: the place of a record, or nothing.
-#[derive(Drop)]
+#[derive(Clone, Copy)]
 pub enum Found {
     At(usize),
     Nothing,

@@ -9,7 +9,7 @@ ghost use Rattle.layout.specs.Limits.{within, list_words, rooms_of};
 ghost use Rattle.layout.specs.SetUp.{prepared, first_list, set_up_refused, sets_up};
 
 // How many words of map, stack and list a heap needs.
-#[derive(Drop)]
+#[derive(Clone, Copy)]
 pub struct Rooms {
     pub map: usize,
     pub stack: usize,
@@ -36,14 +36,14 @@ impl Rooms {
 }
 
 // An interval of the list: its first word, and how many words it has.
-#[derive(Drop)]
+#[derive(Clone, Copy)]
 pub struct Interval {
     pub start: usize,
     pub size: usize,
 }
 
 // What a caller hands in and gets back: the heap's words, the keep length and the list's count.
-#[derive(Drop)]
+#[derive(Clone, Copy)]
 pub struct State {
     pub words: usize,
     pub keep: usize,
@@ -51,7 +51,7 @@ pub struct State {
 }
 
 // What set_up answers: the refusal's number or 0, and the state.
-#[derive(Drop)]
+#[derive(Clone, Copy)]
 pub struct SetUp {
     pub code: u32,
     pub state: State,

@@ -7,7 +7,7 @@ mod references;
 pub use moves::run;
 
 // How far a collection has come.
-#[derive(Drop)]
+#[derive(Clone, Copy)]
 pub struct Progress {
     // roots met
     pub next: usize,
@@ -26,7 +26,7 @@ pub struct Progress {
 }
 
 // What a move comes to: how far the collection has come, or a refusal's number and the reference met.
-#[derive(Drop)]
+#[derive(Clone, Copy)]
 pub(crate) enum Step {
     Going(Progress),
     Done(Progress),
@@ -34,7 +34,7 @@ pub(crate) enum Step {
 }
 
 // How a run ends.
-#[derive(Drop)]
+#[derive(Clone, Copy)]
 pub enum Ended {
     Done(Progress),
     Refused(u32, usize),

@@ -9,7 +9,7 @@ use layout::{Rooms, State, parts};
 use words::{Header, bits};
 
 // What an allot answers: the refusal's number or 0, the new object's address, and the state.
-#[derive(Drop)]
+#[derive(Clone, Copy)]
 pub struct Allotted {
     pub code: u32,
     pub address: usize,

@@ -6,7 +6,7 @@ use layout::{Rooms, State};
 use words::{Header, bits, wide};
 
 // What a read answers: the refusal's number or 0, and the field's word.
-#[derive(Drop)]
+#[derive(Clone, Copy)]
 pub struct Reading {
     pub code: u32,
     pub value: u32,

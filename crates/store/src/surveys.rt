@@ -6,7 +6,7 @@ use freelist::{Figures, records};
 use layout::{Rooms, State};
 
 // What a survey answers: the refusal's number or 0, and the figures.
-#[derive(Drop)]
+#[derive(Clone, Copy)]
 pub struct Surveyed {
     pub code: u32,
     pub figures: Figures,
