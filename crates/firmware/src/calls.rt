@@ -7,8 +7,7 @@ use crate::lent;
 use layout::State;
 
 // Sets a heap up with no object on it, and hands out its state.
-#[unsafe(no_mangle)]
-pub extern "C" fn hx_set_up(
+pub fn hx_set_up(
     heap: &[u32],
     keep: u32,
     map: &mut [u32],
@@ -26,8 +25,7 @@ pub extern "C" fn hx_set_up(
 }
 
 // Marks from the roots, and leaves map and list with a clear stack.
-#[unsafe(no_mangle)]
-pub extern "C" fn hx_collect(
+pub fn hx_collect(
     state: &mut [u32],
     heap: &[u32],
     roots: &[u32],
@@ -48,8 +46,7 @@ pub extern "C" fn hx_collect(
 }
 
 // A new object of so many words, the first of its fields references.
-#[unsafe(no_mangle)]
-pub extern "C" fn hx_allot(
+pub fn hx_allot(
     state: &mut [u32],
     heap: &mut [u32],
     map: &mut [u32],
@@ -71,8 +68,7 @@ pub extern "C" fn hx_allot(
 }
 
 // The word in a field of an object.
-#[unsafe(no_mangle)]
-pub extern "C" fn hx_read(
+pub fn hx_read(
     state: &[u32],
     heap: &[u32],
     map: &[u32],
@@ -92,8 +88,7 @@ pub extern "C" fn hx_read(
 }
 
 // Stores a word in a field of an object.
-#[unsafe(no_mangle)]
-pub extern "C" fn hx_write(
+pub fn hx_write(
     state: &[u32],
     heap: &mut [u32],
     map: &[u32],
@@ -111,8 +106,7 @@ pub extern "C" fn hx_write(
 }
 
 // Listed words, the largest interval and the fragment figure.
-#[unsafe(no_mangle)]
-pub extern "C" fn hx_survey(state: &[u32], list: &[u32], answer: &mut [u32]) -> u32
+pub fn hx_survey(state: &[u32], list: &[u32], answer: &mut [u32]) -> u32
     ensures { telling result answer.new ≡ hx_surveys state.now list.now answer.old }
 {
     if !((lent::STATE_ROOM <= state.len()) & (3 <= answer.len())) {
