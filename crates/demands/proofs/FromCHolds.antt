@@ -16,7 +16,7 @@ use Rattle.demands.proofs.RefusesLaws.{refuses_unless, refused_through, refuses_
 use Rattle.demands.proofs.Demand1Holds.{set_up_ends, survey_ends, read_ends, write_ends}
 use Rattle.demands.proofs.Demand1AllotHolds.{allot_ends}
 use Rattle.demands.proofs.Demand1CollectHolds.{collect_ends}
-use Rattle.demands.specs.Sameness.{Settles, Loan}
+use Rattle.demands.specs.Sameness.{Settles, Loan, MutLoan}
 use Rattle.demands.proofs.SamenessHolds.{named}
 use Rattle.demands.specs.FromC.{Handed, HxSetUpEnds, HxAllotEnds, HxTellEnds, HxWriteEnds, HxCollectEnds, hx_set_up_contract, hx_set_up_end, hx_collect_contract, hx_collect_end, hx_allot_contract, hx_read_contract, hx_read_end, hx_write_contract, hx_write_end, hx_survey_contract, hx_survey_end}
 
@@ -95,7 +95,7 @@ module _ (state heap roots map stack list answer : List ℕ) where
         fails = λ h lent. rw (handed h) (refuses_through collect_from_c (λ y. refl) (λ n. refl) (ends.fails lent));
       }
 
-module _ (κs : Lfts 4) (heap : Loan) (keep : ℕ) (map list state : Loan) where
+module _ (κs : Lfts 4) (heap : Loan) (keep : ℕ) (map list state : MutLoan) where
   -- The contract of `hx_set_up` allows just what its definition gives.
   pub hx_set_up_settled : Settles (hx_set_up_contract κs heap keep map list state) (hx_sets_up heap.now keep map.now list.now state.now)
   hx_set_up_settled = named
@@ -104,7 +104,7 @@ module _ (κs : Lfts 4) (heap : Loan) (keep : ℕ) (map list state : Loan) where
   pub hx_set_up_unwritten : (x : SettingUp) → (hx_set_up_end κs heap keep map list state x).0 ≡ heap
   hx_set_up_unwritten x = refl
 
-module _ (κs : Lfts 7) (state heap roots map stack list answer : Loan) where
+module _ (κs : Lfts 7) (state : MutLoan) (heap roots : Loan) (map stack list answer : MutLoan) where
   -- That of `hx_collect` does.
   pub hx_collect_settled : Settles (hx_collect_contract κs state heap roots map stack list answer) (hx_collects state.now heap.now roots.now map.now stack.now list.now answer.now)
   hx_collect_settled = named
@@ -113,12 +113,12 @@ module _ (κs : Lfts 7) (state heap roots map stack list answer : Loan) where
   pub hx_collect_unwritten : (x : Collecting) → let e = hx_collect_end κs state heap roots map stack list answer x in (e.1.0 ≡ heap) × (e.1.1.0 ≡ roots)
   hx_collect_unwritten x = (refl, refl)
 
-module _ (κs : Lfts 5) (state heap map list : Loan) (s p : ℕ) (answer : Loan) where
+module _ (κs : Lfts 5) (state heap map list : MutLoan) (s p : ℕ) (answer : MutLoan) where
   -- That of `hx_allot` does.
   pub hx_allot_settled : Settles (hx_allot_contract κs state heap map list s p answer) (hx_allots state.now heap.now map.now list.now s p answer.now)
   hx_allot_settled = named
 
-module _ (κs : Lfts 4) (state heap map : Loan) (a k : ℕ) (answer : Loan) where
+module _ (κs : Lfts 4) (state heap map : Loan) (a k : ℕ) (answer : MutLoan) where
   -- That of `hx_read` does.
   pub hx_read_settled : Settles (hx_read_contract κs state heap map a k answer) (hx_reads state.now heap.now map.now a k answer.now)
   hx_read_settled = named
@@ -127,7 +127,7 @@ module _ (κs : Lfts 4) (state heap map : Loan) (a k : ℕ) (answer : Loan) wher
   pub hx_read_unwritten : (x : Telling) → let e = hx_read_end κs state heap map a k answer x in (e.0 ≡ state) × (e.1.0 ≡ heap) × (e.1.1.0 ≡ map)
   hx_read_unwritten x = (refl, refl, refl)
 
-module _ (κs : Lfts 3) (state heap map : Loan) (a k v : ℕ) where
+module _ (κs : Lfts 3) (state : Loan) (heap : MutLoan) (map : Loan) (a k v : ℕ) where
   -- That of `hx_write` does.
   pub hx_write_settled : Settles (hx_write_contract κs state heap map a k v) (hx_writes state.now heap.now map.now a k v)
   hx_write_settled = named
@@ -136,7 +136,7 @@ module _ (κs : Lfts 3) (state heap map : Loan) (a k v : ℕ) where
   pub hx_write_unwritten : (x : Written) → let e = hx_write_end κs state heap map a k v x in (e.0 ≡ state) × (e.1.1.0 ≡ map)
   hx_write_unwritten x = (refl, refl)
 
-module _ (κs : Lfts 3) (state list answer : Loan) where
+module _ (κs : Lfts 3) (state list : Loan) (answer : MutLoan) where
   -- That of `hx_survey` does.
   pub hx_survey_settled : Settles (hx_survey_contract κs state list answer) (hx_surveys state.now list.now answer.now)
   hx_survey_settled = named

@@ -1,6 +1,6 @@
 -- The list of a heap is the one that it must have.
 use Rattle.std.specs.Prelude.{ℕ, ◌≤◌, ◌≡◌, ◌↔◌, Bool, List, length, take}
-use Rattle.std.proofs.Math.Logic.{Iff·symm}
+use mathlib.Core.Logic.Iff
 use Rattle.words.specs.Map.{is_start, covered}
 use Rattle.words.proofs.CoverLaws.{owner_covers, covered_owner}
 use Rattle.layout.specs.Intervals.{shown}
@@ -29,7 +29,7 @@ module _ {t : ℕ} (heap map : List ℕ) {Taken : ℕ → Type 0} (keeps : 1 ≤
   unfolding free_list
   list_longest i =
       let x = runs_longest t (length heap) (covered heap map) i keeps in
-      (λ y. longest_same covers (x.0 y), λ y. x.1 (longest_same (λ w. Iff·symm (covers w)) y))
+      (λ y. longest_same covers (x.0 y), λ y. x.1 (longest_same (λ w. Iff.symm (covers w)) y))
 
   -- It is what the sweep gives, by any test that tells what is covered.
   list_swept : (taken : ℕ → Bool) → Tells taken Taken → free_list t heap map ≡ runs t (length heap) taken

@@ -6,7 +6,7 @@ use base.Fml.{Lft, GName}
 use Rattle.layout.specs.SetUp.{sets_up}
 use Rattle.demands.specs.World.{World, made, begun, Call, allot, read, write, collect, survey, Effect, of_allot, of_read, of_write, of_collect, of_survey, new_world, allots_on, reads_on, writes_on, collects_on, surveys_on, effect, answers}
 use Rattle.demands.specs.History.{History, set_up, ◌then◌, world}
-use Rattle.demands.specs.Sameness.{Loan}
+use Rattle.demands.specs.Sameness.{Loan, MutLoan}
 use Rattle.demands.specs.MayLeave.{MayHave, by_allot, by_read, by_write, by_collect, by_survey, MayLeave, at_set_up, at_call}
 use Rattle.demands.proofs.SamenessHolds.{set_up_settled, collect_settled, allot_settled, read_settled, write_settled, survey_settled}
 
@@ -31,21 +31,25 @@ only_answer {c = c} left has = ap (λ (e : Effect). e.answer) (only_effect has) 
 
 -- Whatever lifetime, place and name the loans have, the same for each, the contracts allow these.
 module _ (κ : Lft) (place : ℕ × ℕ) (name : GName) where
-  -- A loan of words.
+  -- A loan of words to be read.
   lend : List ℕ → Loan
-  lend words = record { ref_ptr = place; ghost_name = name; now = words }
+  lend words = record { ref_ptr = place; now = words }
+
+  -- A loan of words to be changed.
+  lend_mut : List ℕ → MutLoan
+  lend_mut words = record { ref_ptr = place; ghost_name = name; now = words }
 
   -- A call may have its effect,
   pub may_effect : (w : World) (c : Call) → MayHave w c (effect w c)
-  unfolding effect lend
-  may_effect w (allot s p) = by_allot (κ, (κ, (κ, tt))) w.state (lend w.heap) (lend w.map) (lend w.list) w.stack s p (allots_on w s p) refl
+  unfolding effect lend lend_mut
+  may_effect w (allot s p) = by_allot (κ, (κ, (κ, tt))) w.state (lend_mut w.heap) (lend_mut w.map) (lend_mut w.list) w.stack s p (allots_on w s p) refl
   may_effect w (read a k) = by_read (κ, (κ, tt)) w.state (lend w.heap) (lend w.map) w.stack w.list a k (reads_on w a k) refl
-  may_effect w (write a k v) = by_write (κ, (κ, tt)) w.state (lend w.heap) (lend w.map) w.stack w.list a k v (writes_on w a k v) refl
-  may_effect w (collect roots) = by_collect (κ, (κ, (κ, (κ, (κ, tt))))) w.state (lend w.heap) (lend roots) (lend w.map) (lend w.stack) (lend w.list) (collects_on w roots) refl
+  may_effect w (write a k v) = by_write (κ, (κ, tt)) w.state (lend_mut w.heap) (lend w.map) w.stack w.list a k v (writes_on w a k v) refl
+  may_effect w (collect roots) = by_collect (κ, (κ, (κ, (κ, (κ, tt))))) w.state (lend w.heap) (lend roots) (lend_mut w.map) (lend_mut w.stack) (lend_mut w.list) (collects_on w roots) refl
   may_effect w survey = by_survey (κ, tt) w.state (lend w.list) w.heap w.map w.stack (surveys_on w) refl
 
   -- and a history may leave its world.
   pub may_world : (past : History) → MayLeave past (world past)
-  unfolding world new_world lend
-  may_world (set_up heap t map stack list) = at_set_up (κ, (κ, (κ, tt))) (lend heap) t (lend map) (lend list) stack (sets_up heap t map list) refl
+  unfolding world new_world lend lend_mut
+  may_world (set_up heap t map stack list) = at_set_up (κ, (κ, (κ, tt))) (lend heap) t (lend_mut map) (lend_mut list) stack (sets_up heap t map list) refl
   may_world (past then c) = at_call (may_world past) (may_effect (world past) c)

@@ -21,7 +21,7 @@ use Rattle.demands.proofs.Demand1AllotHolds.{allot_ends}
 use Rattle.demands.proofs.Demand1CollectHolds.{collect_ends}
 use Rattle.demands.specs.Demand2.{Demand2}
 use Rattle.demands.proofs.Demand2Holds.{demand_2}
-use Rattle.demands.specs.Sameness.{Contract, Settles, Loan, rooms_contract, hx_map_contract, hx_stack_contract, hx_list_contract, set_up_contract, set_up_end, collect_contract, collect_end, allot_contract, read_contract, read_end, write_contract, write_end, survey_contract, survey_end, answer_contract, answer_end}
+use Rattle.demands.specs.Sameness.{Contract, Settles, Loan, MutLoan, rooms_contract, hx_map_contract, hx_stack_contract, hx_list_contract, set_up_contract, set_up_end, collect_contract, collect_end, allot_contract, read_contract, read_end, write_contract, write_end, survey_contract, survey_end, answer_contract, answer_end}
 
 -- A contract whose demands are met, and that allows just one outcome, settles it.
 settles : {A : Type 0} {contract : Contract A} {outcome : A} → contract.asks → ((x : A) → contract.allows x ↔ (x ≡ outcome)) → Settles contract outcome
@@ -52,7 +52,7 @@ module _ (κs : Lfts 0) (words keep : ℕ) where
   pub hx_list_settled : Settles (hx_list_contract κs words keep) (rooms_of words keep).list
   hx_list_settled = named
 
-module _ (κs : Lfts 3) (heap : Loan) (keep : ℕ) (map list : Loan) where
+module _ (κs : Lfts 3) (heap : Loan) (keep : ℕ) (map list : MutLoan) where
   -- The contract of set_up allows just what its definition gives.
   pub set_up_settled : Settles (set_up_contract κs heap keep map list) (sets_up heap.now keep map.now list.now)
   set_up_settled = named
@@ -65,7 +65,7 @@ module _ (κs : Lfts 3) (heap : Loan) (keep : ℕ) (map list : Loan) where
   pub set_up_unwritten : (x : Prepared) → (set_up_end κs heap keep map list x).0 ≡ heap
   set_up_unwritten x = refl
 
-module _ (κs : Lfts 5) (state : State) (heap roots map stack list : Loan) where
+module _ (κs : Lfts 5) (state : State) (heap roots : Loan) (map stack list : MutLoan) where
   -- The contract of collect allows just what its definition gives.
   pub collect_settled : Settles (collect_contract κs state heap roots map stack list) (collects state heap.now roots.now map.now stack.now list.now)
   collect_settled = named
@@ -82,7 +82,7 @@ module _ (κs : Lfts 5) (state : State) (heap roots map stack list : Loan) where
   pub collect_unwritten : (x : Left) → let e = collect_end κs state heap roots map stack list x in (e.1.0 ≡ heap) × (e.1.1.0 ≡ roots)
   collect_unwritten x = (refl, refl)
 
-module _ (κs : Lfts 3) (state : State) (heap map list : Loan) (s p : ℕ) where
+module _ (κs : Lfts 3) (state : State) (heap map list : MutLoan) (s p : ℕ) where
   -- The contract of allot allows just what its definition gives.
   pub allot_settled : Settles (allot_contract κs state heap map list s p) (allots state heap.now map.now list.now s p)
   allot_settled = named
@@ -104,18 +104,18 @@ module _ (κs : Lfts 2) (state : State) (heap map : Loan) (a k : ℕ) where
   pub read_unwritten : let e = read_end κs state heap map a k in (e.1.0 ≡ heap) × (e.1.1.0 ≡ map)
   read_unwritten = (refl, refl)
 
-  module _ (v : ℕ) where
-    -- The contract of write allows just what its definition gives.
-    pub write_settled : Settles (write_contract κs state heap map a k v) (writes state heap.now map.now a k v)
-    write_settled = named
+module _ (κs : Lfts 2) (state : State) (heap : MutLoan) (map : Loan) (a k v : ℕ) where
+  -- The contract of write allows just what its definition gives.
+  pub write_settled : Settles (write_contract κs state heap map a k v) (writes state heap.now map.now a k v)
+  write_settled = named
 
-    -- Demand 1 holds of every outcome that it allows.
-    pub write_demand_1 : (x : Written) → (write_contract κs state heap map a k v).allows x → WriteEnds heap.now x
-    write_demand_1 = carries write_settled (WriteEnds heap.now) (write_ends state heap.now map.now a k v)
+  -- Demand 1 holds of every outcome that it allows.
+  pub write_demand_1 : (x : Written) → (write_contract κs state heap map a k v).allows x → WriteEnds heap.now x
+  write_demand_1 = carries write_settled (WriteEnds heap.now) (write_ends state heap.now map.now a k v)
 
-    -- It leaves the map as it was lent.
-    pub write_unwritten : (x : Written) → (write_end κs state heap map a k v x).1.1.0 ≡ map
-    write_unwritten x = refl
+  -- It leaves the map as it was lent.
+  pub write_unwritten : (x : Written) → (write_end κs state heap map a k v x).1.1.0 ≡ map
+  write_unwritten x = refl
 
 module _ (κs : Lfts 1) (state : State) (list : Loan) where
   -- The contract of survey allows just what its definition gives.
@@ -130,7 +130,7 @@ module _ (κs : Lfts 1) (state : State) (list : Loan) where
   pub survey_unwritten : (survey_end κs state list).1.0 ≡ list
   survey_unwritten = refl
 
-module _ (κs : Lfts 2) (text out : Loan) where
+module _ (κs : Lfts 2) (text : Loan) (out : MutLoan) where
   -- The contract of the text program's `answer` allows just what its definition gives.
   pub answer_settled : Settles (answer_contract κs text out) (reports text.now out.now)
   answer_settled = named

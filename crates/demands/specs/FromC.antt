@@ -2,7 +2,7 @@
 use Rattle.std.specs.Prelude.{ℕ, ◌≤◌, ◌≡◌, List, [], ◌∷◌, length, get_or}
 use contract.Lifetimes.{Lfts}
 use denote.Triple.Clauses.{AtExit, at_exit}
-use borrow.Fn.Kinds.{Dens}
+use borrow.Fn.Kinds.{Dens, ended_of}
 use Rattle.layout.specs.Limits.{map_words, stack_words, list_words}
 use Rattle.layout.specs.declared.State.{State}
 use Rattle.store.specs.Fields.{Written, written}
@@ -16,7 +16,7 @@ use Rattle.firmware.proofs.hx_write as hx_write
 use Rattle.firmware.proofs.hx_survey as hx_survey
 use Rattle.demands.specs.Lent.{Lent}
 use Rattle.demands.specs.Demand1.{front_cleared, Refused, Refuses}
-use Rattle.demands.specs.Sameness.{Contract, Loan}
+use Rattle.demands.specs.Sameness.{Contract, Loan, MutLoan}
 
 -- The words lent for a state and for an answer of n words are enough.
 pub record Handed (n : ℕ) (state answer : List ℕ) : Type 0 where
@@ -60,33 +60,33 @@ pub record HxCollectEnds (state heap roots map stack list answer : List ℕ) (r 
   -- Else it succeeds, or it is refused for the reference that the answer's first word names.
   pub fails : Handed 5 state answer → Lent (state_in state) heap roots map stack list → Refuses (λ (x : Collecting). x.code) (hx_marking_refused state map stack list answer (get_or r.answer 0 0)) (4 ∷ 5 ∷ 6 ∷ []) r
 
-module _ (κs : Lfts 4) (heap : Loan) (keep : ℕ) (map list state : Loan) where
+module _ (κs : Lfts 4) (heap : Loan) (keep : ℕ) (map list state : MutLoan) where
   -- What `hx_set_up` is handed.
   abbrev hx_set_up_begin : Dens κs hx_set_up.Kinds.ps
   hx_set_up_begin = (heap, (keep, (map, (list, (state, tt)))))
 
   -- The same at exit, where map, list and state have the words of the outcome.
-  abbrev pub hx_set_up_end : SettingUp → AtExit hx_set_up.ended κs
-  hx_set_up_end x = at_exit hx_set_up.ended κs hx_set_up_begin (tt, (tt, (x.map, (x.list, (x.state, tt)))))
+  abbrev pub hx_set_up_end : SettingUp → AtExit (ended_of 4 hx_set_up.Kinds.ps hx_set_up.Kinds.r) κs
+  hx_set_up_end x = at_exit (ended_of 4 hx_set_up.Kinds.ps hx_set_up.Kinds.r) κs hx_set_up_begin (tt, (tt, (x.map, (x.list, (x.state, tt)))))
 
   -- Its contract.
   abbrev pub hx_set_up_contract : Contract SettingUp
   hx_set_up_contract = record { asks = hx_set_up.Reads.Asked κs hx_set_up_begin; allows = λ x. hx_set_up.Reads.Learnt κs hx_set_up_begin x.code (hx_set_up_end x) }
 
-module _ (κs : Lfts 7) (state heap roots map stack list answer : Loan) where
+module _ (κs : Lfts 7) (state : MutLoan) (heap roots : Loan) (map stack list answer : MutLoan) where
   -- What `hx_collect` is handed.
   abbrev hx_collect_begin : Dens κs hx_collect.Kinds.ps
   hx_collect_begin = (state, (heap, (roots, (map, (stack, (list, (answer, tt)))))))
 
   -- The same at exit, where state, map, stack, list and answer have the words of the outcome.
-  abbrev pub hx_collect_end : Collecting → AtExit hx_collect.ended κs
-  hx_collect_end x = at_exit hx_collect.ended κs hx_collect_begin (x.state, (tt, (tt, (x.map, (x.stack, (x.list, (x.answer, tt)))))))
+  abbrev pub hx_collect_end : Collecting → AtExit (ended_of 7 hx_collect.Kinds.ps hx_collect.Kinds.r) κs
+  hx_collect_end x = at_exit (ended_of 7 hx_collect.Kinds.ps hx_collect.Kinds.r) κs hx_collect_begin (x.state, (tt, (tt, (x.map, (x.stack, (x.list, (x.answer, tt)))))))
 
   -- Its contract.
   abbrev pub hx_collect_contract : Contract Collecting
   hx_collect_contract = record { asks = hx_collect.Reads.Asked κs hx_collect_begin; allows = λ x. hx_collect.Reads.Learnt κs hx_collect_begin x.code (hx_collect_end x) }
 
-module _ (κs : Lfts 5) (state heap map list : Loan) (s p : ℕ) (answer : Loan) where
+module _ (κs : Lfts 5) (state heap map list : MutLoan) (s p : ℕ) (answer : MutLoan) where
   -- What `hx_allot` is handed.
   abbrev hx_allot_begin : Dens κs hx_allot.Kinds.ps
   hx_allot_begin = (state, (heap, (map, (list, (s, (p, (answer, tt)))))))
@@ -95,43 +95,43 @@ module _ (κs : Lfts 5) (state heap map list : Loan) (s p : ℕ) (answer : Loan)
   abbrev pub hx_allot_contract : Contract Allotting
   hx_allot_contract = record {
     asks = hx_allot.Reads.Asked κs hx_allot_begin;
-    allows = λ x. hx_allot.Reads.Learnt κs hx_allot_begin x.code (at_exit hx_allot.ended κs hx_allot_begin (x.state, (x.heap, (x.map, (x.list, (tt, (tt, (x.answer, tt))))))));
+    allows = λ x. hx_allot.Reads.Learnt κs hx_allot_begin x.code (at_exit (ended_of 5 hx_allot.Kinds.ps hx_allot.Kinds.r) κs hx_allot_begin (x.state, (x.heap, (x.map, (x.list, (tt, (tt, (x.answer, tt))))))));
   }
 
-module _ (κs : Lfts 4) (state heap map : Loan) (a k : ℕ) (answer : Loan) where
+module _ (κs : Lfts 4) (state heap map : Loan) (a k : ℕ) (answer : MutLoan) where
   -- What `hx_read` is handed.
   abbrev hx_read_begin : Dens κs hx_read.Kinds.ps
   hx_read_begin = (state, (heap, (map, (a, (k, (answer, tt))))))
 
   -- The same at exit, where the answer has the words of the outcome.
-  abbrev pub hx_read_end : Telling → AtExit hx_read.ended κs
-  hx_read_end x = at_exit hx_read.ended κs hx_read_begin (tt, (tt, (tt, (tt, (tt, (x.answer, tt))))))
+  abbrev pub hx_read_end : Telling → AtExit (ended_of 4 hx_read.Kinds.ps hx_read.Kinds.r) κs
+  hx_read_end x = at_exit (ended_of 4 hx_read.Kinds.ps hx_read.Kinds.r) κs hx_read_begin (tt, (tt, (tt, (tt, (tt, (x.answer, tt))))))
 
   -- Its contract.
   abbrev pub hx_read_contract : Contract Telling
   hx_read_contract = record { asks = hx_read.Reads.Asked κs hx_read_begin; allows = λ x. hx_read.Reads.Learnt κs hx_read_begin x.code (hx_read_end x) }
 
-module _ (κs : Lfts 3) (state heap map : Loan) (a k v : ℕ) where
+module _ (κs : Lfts 3) (state : Loan) (heap : MutLoan) (map : Loan) (a k v : ℕ) where
   -- What `hx_write` is handed.
   abbrev hx_write_begin : Dens κs hx_write.Kinds.ps
   hx_write_begin = (state, (heap, (map, (a, (k, (v, tt))))))
 
   -- The same at exit, where the heap has the words of the outcome.
-  abbrev pub hx_write_end : Written → AtExit hx_write.ended κs
-  hx_write_end x = at_exit hx_write.ended κs hx_write_begin (tt, (x.heap, (tt, (tt, (tt, (tt, tt))))))
+  abbrev pub hx_write_end : Written → AtExit (ended_of 3 hx_write.Kinds.ps hx_write.Kinds.r) κs
+  hx_write_end x = at_exit (ended_of 3 hx_write.Kinds.ps hx_write.Kinds.r) κs hx_write_begin (tt, (x.heap, (tt, (tt, (tt, (tt, tt))))))
 
   -- Its contract.
   abbrev pub hx_write_contract : Contract Written
   hx_write_contract = record { asks = hx_write.Reads.Asked κs hx_write_begin; allows = λ x. hx_write.Reads.Learnt κs hx_write_begin x.code (hx_write_end x) }
 
-module _ (κs : Lfts 3) (state list answer : Loan) where
+module _ (κs : Lfts 3) (state list : Loan) (answer : MutLoan) where
   -- What `hx_survey` is handed.
   abbrev hx_survey_begin : Dens κs hx_survey.Kinds.ps
   hx_survey_begin = (state, (list, (answer, tt)))
 
   -- The same at exit, where the answer has the words of the outcome.
-  abbrev pub hx_survey_end : Telling → AtExit hx_survey.ended κs
-  hx_survey_end x = at_exit hx_survey.ended κs hx_survey_begin (tt, (tt, (x.answer, tt)))
+  abbrev pub hx_survey_end : Telling → AtExit (ended_of 3 hx_survey.Kinds.ps hx_survey.Kinds.r) κs
+  hx_survey_end x = at_exit (ended_of 3 hx_survey.Kinds.ps hx_survey.Kinds.r) κs hx_survey_begin (tt, (tt, (x.answer, tt)))
 
   -- Its contract.
   abbrev pub hx_survey_contract : Contract Telling

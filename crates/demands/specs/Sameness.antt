@@ -1,10 +1,10 @@
 -- What the contract of each public function asks and allows, at any arguments: `Asked` and `Learnt` are the toolchain's own, read off the source.
 use Rattle.std.specs.Prelude.{ℕ, ◌≡◌, ◌↔◌, List}
 use contract.Lifetimes.{Lfts}
-use Rattle.std.specs.Borrow.{Bor}
+use Rattle.std.specs.Borrow.{Bor, MutBor}
 use denote.Triple.Entry.{Args, Res}
 use denote.Triple.Clauses.{Ended, Lasts, AtExit, at_exit}
-use borrow.Fn.Kinds.{Dens}
+use borrow.Fn.Kinds.{Dens, ended_of}
 use Rattle.layout.specs.SetUp.{Prepared}
 use Rattle.layout.specs.declared.Rooms.{Rooms}
 use Rattle.layout.specs.declared.State.{State}
@@ -37,9 +37,13 @@ pub record Settles {A : Type 0} (contract : Contract A) (outcome : A) : Type 0 w
   pub just : (x : A) → contract.allows x ↔ (x ≡ outcome)
   pub same : (x y : A) → contract.allows x → contract.allows y → x ≡ y
 
--- A buffer as it is lent to a call, with the words that it has `now`.
+-- A buffer as it is lent to a call to be read, with the words that it has `now`.
 abbrev pub Loan : Type 0
 Loan = Bor (List ℕ)
+
+-- A buffer as it is lent to a call to be changed, with the words that it has `now`.
+abbrev pub MutLoan : Type 0
+MutLoan = MutBor (List ℕ)
 
 module _ (κs : Lfts 0) (words keep : ℕ) where
   -- The contract of `Rooms::of`.
@@ -58,40 +62,40 @@ module _ (κs : Lfts 0) (words keep : ℕ) where
   abbrev pub hx_list_contract : Contract ℕ
   hx_list_contract = record { asks = hx_list.Reads.Asked κs (words, (keep, tt)); allows = λ x. hx_list.Reads.Learnt κs (words, (keep, tt)) x (words, (keep, tt)) }
 
-module _ (κs : Lfts 3) (heap : Loan) (keep : ℕ) (map list : Loan) where
+module _ (κs : Lfts 3) (heap : Loan) (keep : ℕ) (map list : MutLoan) where
   -- What set_up is handed.
   abbrev set_up_begin : Dens κs set_up.Kinds.ps
   set_up_begin = (heap, (keep, (map, (list, tt))))
 
   -- The same at exit, where map and list have the words of the outcome.
-  abbrev pub set_up_end : Prepared → AtExit set_up.ended κs
-  set_up_end x = at_exit set_up.ended κs set_up_begin (tt, (tt, (x.map, (x.list, tt))))
+  abbrev pub set_up_end : Prepared → AtExit (ended_of 3 set_up.Kinds.ps set_up.Kinds.r) κs
+  set_up_end x = at_exit (ended_of 3 set_up.Kinds.ps set_up.Kinds.r) κs set_up_begin (tt, (tt, (x.map, (x.list, tt))))
 
   -- The contract of set_up.
   abbrev pub set_up_contract : Contract Prepared
   set_up_contract = record { asks = set_up.Reads.Asked κs set_up_begin; allows = λ x. set_up.Reads.Learnt κs set_up_begin x.answer (set_up_end x) }
 
-module _ (κs : Lfts 5) (state : State) (heap roots map stack list : Loan) where
+module _ (κs : Lfts 5) (state : State) (heap roots : Loan) (map stack list : MutLoan) where
   -- What collect is handed.
   abbrev collect_begin : Dens κs collect.Kinds.ps
   collect_begin = (state, (heap, (roots, (map, (stack, (list, tt))))))
 
   -- The same at exit, where map, stack and list have the words of the outcome.
-  abbrev pub collect_end : Left → AtExit collect.ended κs
-  collect_end x = at_exit collect.ended κs collect_begin (tt, (tt, (tt, (x.map, (x.stack, (x.list, tt))))))
+  abbrev pub collect_end : Left → AtExit (ended_of 5 collect.Kinds.ps collect.Kinds.r) κs
+  collect_end x = at_exit (ended_of 5 collect.Kinds.ps collect.Kinds.r) κs collect_begin (tt, (tt, (tt, (x.map, (x.stack, (x.list, tt))))))
 
   -- The contract of collect.
   abbrev pub collect_contract : Contract Left
   collect_contract = record { asks = collect.Reads.Asked κs collect_begin; allows = λ x. collect.Reads.Learnt κs collect_begin x.answer (collect_end x) }
 
-module _ (κs : Lfts 3) (state : State) (heap map list : Loan) (s p : ℕ) where
+module _ (κs : Lfts 3) (state : State) (heap map list : MutLoan) (s p : ℕ) where
   -- What allot is handed.
   abbrev allot_begin : Dens κs allot.Kinds.ps
   allot_begin = (state, (heap, (map, (list, (s, (p, tt))))))
 
   -- The same at exit, where heap, map and list have the words of the outcome.
-  abbrev allot_end : Allotment → AtExit allot.ended κs
-  allot_end x = at_exit allot.ended κs allot_begin (tt, (x.heap, (x.map, (x.list, (tt, (tt, tt))))))
+  abbrev allot_end : Allotment → AtExit (ended_of 3 allot.Kinds.ps allot.Kinds.r) κs
+  allot_end x = at_exit (ended_of 3 allot.Kinds.ps allot.Kinds.r) κs allot_begin (tt, (x.heap, (x.map, (x.list, (tt, (tt, tt))))))
 
   -- The contract of allot.
   abbrev pub allot_contract : Contract Allotment
@@ -103,25 +107,25 @@ module _ (κs : Lfts 2) (state : State) (heap map : Loan) (a k : ℕ) where
   read_begin = (state, (heap, (map, (a, (k, tt)))))
 
   -- The same at exit.
-  abbrev pub read_end : AtExit read.ended κs
-  read_end = at_exit read.ended κs read_begin (tt, (tt, (tt, (tt, (tt, tt)))))
+  abbrev pub read_end : AtExit (ended_of 2 read.Kinds.ps read.Kinds.r) κs
+  read_end = at_exit (ended_of 2 read.Kinds.ps read.Kinds.r) κs read_begin (tt, (tt, (tt, (tt, (tt, tt)))))
 
   -- The contract of read.
   abbrev pub read_contract : Contract Reading
   read_contract = record { asks = read.Reads.Asked κs read_begin; allows = λ x. read.Reads.Learnt κs read_begin x read_end }
 
-  module _ (v : ℕ) where
-    -- What write is handed.
-    abbrev write_begin : Dens κs write.Kinds.ps
-    write_begin = (state, (heap, (map, (a, (k, (v, tt))))))
+module _ (κs : Lfts 2) (state : State) (heap : MutLoan) (map : Loan) (a k v : ℕ) where
+  -- What write is handed.
+  abbrev write_begin : Dens κs write.Kinds.ps
+  write_begin = (state, (heap, (map, (a, (k, (v, tt))))))
 
-    -- The same at exit, where the heap has the words of the outcome.
-    abbrev pub write_end : Written → AtExit write.ended κs
-    write_end x = at_exit write.ended κs write_begin (tt, (x.heap, (tt, (tt, (tt, (tt, tt))))))
+  -- The same at exit, where the heap has the words of the outcome.
+  abbrev pub write_end : Written → AtExit (ended_of 2 write.Kinds.ps write.Kinds.r) κs
+  write_end x = at_exit (ended_of 2 write.Kinds.ps write.Kinds.r) κs write_begin (tt, (x.heap, (tt, (tt, (tt, (tt, tt))))))
 
-    -- The contract of write.
-    abbrev pub write_contract : Contract Written
-    write_contract = record { asks = write.Reads.Asked κs write_begin; allows = λ x. write.Reads.Learnt κs write_begin x.code (write_end x) }
+  -- The contract of write.
+  abbrev pub write_contract : Contract Written
+  write_contract = record { asks = write.Reads.Asked κs write_begin; allows = λ x. write.Reads.Learnt κs write_begin x.code (write_end x) }
 
 module _ (κs : Lfts 1) (state : State) (list : Loan) where
   -- What survey is handed.
@@ -129,21 +133,21 @@ module _ (κs : Lfts 1) (state : State) (list : Loan) where
   survey_begin = (state, (list, tt))
 
   -- The same at exit.
-  abbrev pub survey_end : AtExit survey.ended κs
-  survey_end = at_exit survey.ended κs survey_begin (tt, (tt, tt))
+  abbrev pub survey_end : AtExit (ended_of 1 survey.Kinds.ps survey.Kinds.r) κs
+  survey_end = at_exit (ended_of 1 survey.Kinds.ps survey.Kinds.r) κs survey_begin (tt, (tt, tt))
 
   -- The contract of survey.
   abbrev pub survey_contract : Contract Surveyed
   survey_contract = record { asks = survey.Reads.Asked κs survey_begin; allows = λ x. survey.Reads.Learnt κs survey_begin x survey_end }
 
-module _ (κs : Lfts 2) (text out : Loan) where
+module _ (κs : Lfts 2) (text : Loan) (out : MutLoan) where
   -- What the text program's `answer` is handed.
   abbrev answer_begin : Dens κs answer.Kinds.ps
   answer_begin = (text, (out, tt))
 
   -- The same at exit, where the output buffer has the bytes of the outcome.
-  abbrev pub answer_end : Output → AtExit answer.ended κs
-  answer_end x = at_exit answer.ended κs answer_begin (tt, (x.out, tt))
+  abbrev pub answer_end : Output → AtExit (ended_of 2 answer.Kinds.ps answer.Kinds.r) κs
+  answer_end x = at_exit (ended_of 2 answer.Kinds.ps answer.Kinds.r) κs answer_begin (tt, (x.out, tt))
 
   -- The contract of `answer`.
   abbrev pub answer_contract : Contract Output
