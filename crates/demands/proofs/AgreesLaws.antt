@@ -90,7 +90,7 @@ collect_agrees {past} {roots} rooted ih = record {
     was : (a : ℕ) → On (after (world past) (collect roots)) a → On (world past) a
     was a on = reached_on ih.stands rooted ((collect_starts ih.stands rooted a).0 on)
 
--- After set_up.
+-- After set-up.
 set_up_agrees : (heap : List ℕ) (t : ℕ) (map stack list : List ℕ) → Keeps (set_up heap t map stack list) → Agrees (set_up heap t map stack list)
 unfolding Keeps world words_of keep_of Held
 set_up_agrees heap t map stack list lent = record {

@@ -1,4 +1,4 @@
--- Demand 1 holds of set_up, survey, read and write.
+-- Demand 1 holds of set-up, survey, read and write.
 use Rattle.std.specs.Prelude.{ℕ, ◌-◌, ◌≤◌, ◌≡◌, refl, Bool, ◌&&◌, List, [], ◌∷◌, length, take, replicate, leb, ltb, eqb}
 use Rattle.std.proofs.Math.ListN.{length-set}
 use Rattle.words.specs.Header.{size_at, well_formed}
@@ -45,7 +45,7 @@ module _ (heap : List ℕ) (t : ℕ) (map list : List ℕ) where
       (kept_clear map x.0, kept_front (shown (list_words h t) (first_list h t)) list (first_long heap t (limits h t ok).keeps) x.1))
       (λ short. (kept_same, kept_same))) (λ out. (kept_same, kept_same))
 
-  -- Every set_up ends as demand 1 says.
+  -- Every set-up ends as demand 1 says.
   pub set_up_ends : SetUpEnds heap t map list (sets_up heap t map list)
   unfolding sets_up
   set_up_ends = record { refuses = refuses_unless (λ n. refl) (within h t) 1 (refuses_unless (λ n. refl) long 2 (success refl)); keeps_map = set_up_keeps.0; keeps_list = set_up_keeps.1 }

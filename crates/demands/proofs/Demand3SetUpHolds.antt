@@ -1,4 +1,4 @@
--- Demand 3: set_up leaves a world that stands, with nothing on its map.
+-- Demand 3: set-up leaves a world that stands, with nothing on its map.
 use Rattle.std.specs.Prelude.{ℕ, ◌≡◌, refl, true, List, [], ◌++◌, length, drop, replicate}
 use Rattle.std.proofs.Common.{sym, ◌∙◌, take_at}
 use Rattle.std.proofs.lemmas.List.{length-replicate}
@@ -35,7 +35,7 @@ module _ {heap : List ℕ} {t : ℕ} {map stack list : List ℕ} (lent : Lent (r
   abbrev clear : List ℕ
   clear = front_cleared m map
 
-  -- What set_up leaves.
+  -- What set-up leaves.
   pub set_up_left : new_world heap t map stack list ≡ made heap (record { words = h; keep = t; count = length (first_list h t) }) clear stack (shown n (first_list h t) ++ drop n list)
   unfolding new_world sets_up
   set_up_left =

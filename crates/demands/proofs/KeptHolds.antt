@@ -20,7 +20,7 @@ use Rattle.demands.specs.World.{allot, write, collect, On, new_world, effect}
 use Rattle.demands.specs.History.{History, ◌then◌, world, Premise, Keeps, gives, Held}
 use Rattle.demands.specs.Examples.{laid, set_up_of, littered}
 
--- An allot, a write and a collection after set_up.
+-- An allot, a write and a collection after set-up.
 abbrev short : History
 short = set_up_of littered then allot 3 1 then write 1 1 7 then collect (1 ∷ [])
 

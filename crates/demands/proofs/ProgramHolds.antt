@@ -26,7 +26,7 @@ use Rattle.demands.specs.Program.{Prints, sound, unsound}
 
 -- Set-up, collection and survey in buffers that are long enough.
 module _ (heap : List ℕ) (t : ℕ) (roots map stack list : List ℕ) (few : length roots ≤ max_roots) (lends : Lent (record { words = length heap; keep = t; count = 0 }) heap [] map stack list) where
-  -- The world after set_up.
+  -- The world after set-up.
   abbrev w : World
   w = new_world heap t map stack list
 

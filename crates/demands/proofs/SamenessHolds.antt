@@ -53,7 +53,7 @@ module _ (κs : Lfts 0) (words keep : ℕ) where
   hx_list_settled = named
 
 module _ (κs : Lfts 3) (heap : Loan) (keep : ℕ) (map list : MutLoan) where
-  -- The contract of set_up allows just what its definition gives.
+  -- The contract of set-up allows just what its definition gives.
   pub set_up_settled : Settles (set_up_contract κs heap keep map list) (sets_up heap.now keep map.now list.now)
   set_up_settled = named
 

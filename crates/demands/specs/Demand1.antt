@@ -30,7 +30,7 @@ pub record Refused {A : Type 0} (code : A → ℕ) (refuse : ℕ → A) (numbers
 abbrev pub Refuses : {A : Type 0} → (A → ℕ) → (ℕ → A) → List ℕ → A → Type 0
 Refuses code refuse numbers outcome = code outcome ≢ 0 → Refused code refuse numbers outcome
 
--- How set_up ends.
+-- How set-up ends.
 pub record SetUpEnds (heap : List ℕ) (t : ℕ) (map list : List ℕ) (r : Prepared) : Type 0 where
   -- It answers, or it refuses with 1 or 2 and a state of zeros, and map and list are as they came.
   pub refuses : Refuses (λ (x : Prepared). x.answer.code) (λ n. prepared (set_up_refused n) map list) (1 ∷ 2 ∷ []) r

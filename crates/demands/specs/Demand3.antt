@@ -50,9 +50,9 @@ pub record Demand3 (past : History) : Type 0 where
   pub unrefused : (roots : List ℕ) → Rooted (world past) roots → (collects_on (world past) roots).answer.code ≡ 0
   -- Allotting lacks room only if no such run fits, and is refused for nothing else but what is asked.
   pub room : (s p : ℕ) → AllotAnswers (keep_of past) (FreeRun past) s p (allots_on (world past) s p).answer.code
-  -- The heap has as many words as at set_up.
+  -- The heap has as many words as at set-up.
   pub long : length (world past).heap ≡ words_of past
-  -- The keep length is that of set_up.
+  -- The keep length is that of set-up.
   pub keep : (world past).state.keep ≡ keep_of past
   -- All that is lent is within the limits still.
   pub lent : Lent (world past).state (world past).heap [] (world past).map (world past).stack (world past).list

@@ -17,7 +17,7 @@ pub record Seen : Type 0 where
   pub list : List ℕ
   pub rest : List ℕ
 
--- A worked example: a setting, the calls made after its set_up, one last call, and what must be seen of that one.
+-- A worked example: a setting, the calls made after its set-up, one last call, and what must be seen of that one.
 pub record Example : Type 0 where
   pub setting : Setting
   pub before : List Call
@@ -33,7 +33,7 @@ laid h (g ∷ given) = set (laid h given) g.0 g.1
 abbrev pub junk : ℕ → List ℕ
 junk n = replicate n 9
 
--- The set_up of a setting, with buffers of just the needed lengths.
+-- The set-up of a setting, with buffers of just the needed lengths.
 unfoldable pub set_up_of : Setting → History
 set_up_of i =
     let h : ℕ = i.words in

@@ -23,7 +23,7 @@ pub record Handed (n : ℕ) (state answer : List ℕ) : Type 0 where
   pub state_room_lem : state_room ≤ length state
   pub answer_room_lem : n ≤ length answer
 
--- How set_up from C ends: with too few words for the state nothing changes; else a refusal clears these words and changes no other.
+-- How set-up from C ends: with too few words for the state nothing changes; else a refusal clears these words and changes no other.
 pub record HxSetUpEnds (map list state : List ℕ) (r : SettingUp) : Type 0 where
   pub short : ¬ (state_room ≤ length state) → r ≡ setting_up 2 map list state
   pub refuses : state_room ≤ length state → Refuses (λ (x : SettingUp). x.code) (λ n. setting_up n map list (front_cleared state_room state)) (1 ∷ 2 ∷ []) r

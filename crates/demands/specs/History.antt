@@ -1,4 +1,4 @@
--- Histories: one set_up, and then calls of every kind, each of which gets what the last one left.
+-- Histories: one set-up, and then calls of every kind, each of which gets what the last one left.
 use Prim.{Unit}
 use Rattle.std.specs.Prelude.{ℕ, ◌≤◌, ◌≡◌, ◌⊎◌, Bool, true, cond, ◌&&◌, length, eqb}
 use mathlib.Core.List.{List, [], ◌∷◌, Memᴰ}
@@ -10,7 +10,7 @@ use Rattle.demands.specs.Lent.{Lent}
 use Rattle.demands.specs.World.{World, On, Call, allot, read, write, collect, survey, new_world, after, allots_on, writes_on}
 
 infixl 20 ◌then◌
--- A history: one set_up with what is lent to it, and then calls.
+-- A history: one set-up with what is lent to it, and then calls.
 pub data History : Type 0 where
   set_up : (heap : List ℕ) (t : ℕ) (map stack list : List ℕ) → History
   ◌then◌ : History → Call → History
@@ -20,12 +20,12 @@ unfoldable pub world : History → World
 world (set_up heap t map stack list) = new_world heap t map stack list
 world (past then c) = after (world past) c
 
--- How many words its heap has: as many as at set_up.
+-- How many words its heap has: as many as at set-up.
 unfoldable pub words_of : History → ℕ
 words_of (set_up heap t map stack list) = length heap
 words_of (past then c) = words_of past
 
--- Its keep length: that of set_up.
+-- Its keep length: that of set-up.
 unfoldable pub keep_of : History → ℕ
 keep_of (set_up heap t map stack list) = t
 keep_of (past then c) = keep_of past
@@ -43,7 +43,7 @@ Premise w (write b j v) = Unit
 Premise w (collect roots) = Rooted w roots
 Premise w survey = Unit
 
--- A history keeps the premises of demand 3: what set_up is lent is within the limits, and each call is as supposed.
+-- A history keeps the premises of demand 3: what set-up is lent is within the limits, and each call is as supposed.
 unfoldable pub Keeps : History → Type 0
 Keeps (set_up heap t map stack list) = Lent (record { words = length heap; keep = t; count = 0 }) heap [] map stack list
 Keeps (past then c) = Keeps past × Premise (world past) c

@@ -25,7 +25,7 @@ pub data MayHave : World → Call → Effect → Type 0 where
   by_survey : (κs : Lfts 1) (state : State) (list : Loan) (heap map stack : List ℕ) (x : Surveyed) → (survey_contract κs state list).allows x
       → MayHave (made heap state map stack list.now) survey (of_survey (made heap state map stack list.now) x)
 
--- A history may leave a world: the contract of set_up allows what makes its first one, and each call may have an effect that leaves the next.
+-- A history may leave a world: the contract of set-up allows what makes its first one, and each call may have an effect that leaves the next.
 pub data MayLeave : History → World → Type 0 where
   at_set_up : (κs : Lfts 3) (heap : Loan) (t : ℕ) (map list : MutLoan) (stack : List ℕ) (x : Prepared) → (set_up_contract κs heap t map list).allows x
       → MayLeave (set_up heap.now t map.now stack list.now) (begun heap.now stack x)

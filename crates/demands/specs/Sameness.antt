@@ -63,7 +63,7 @@ module _ (κs : Lfts 0) (words keep : ℕ) where
   hx_list_contract = record { asks = hx_list.Reads.Asked κs (words, (keep, tt)); allows = λ x. hx_list.Reads.Learnt κs (words, (keep, tt)) x (words, (keep, tt)) }
 
 module _ (κs : Lfts 3) (heap : Loan) (keep : ℕ) (map list : MutLoan) where
-  -- What set_up is handed.
+  -- What set-up is handed.
   abbrev set_up_begin : Dens κs set_up.Kinds.ps
   set_up_begin = (heap, (keep, (map, (list, tt))))
 
@@ -71,7 +71,7 @@ module _ (κs : Lfts 3) (heap : Loan) (keep : ℕ) (map list : MutLoan) where
   abbrev pub set_up_end : Prepared → AtExit (ended_of 3 set_up.Kinds.ps set_up.Kinds.r) κs
   set_up_end x = at_exit (ended_of 3 set_up.Kinds.ps set_up.Kinds.r) κs set_up_begin (tt, (tt, (x.map, (x.list, tt))))
 
-  -- The contract of set_up.
+  -- The contract of set-up.
   abbrev pub set_up_contract : Contract Prepared
   set_up_contract = record { asks = set_up.Reads.Asked κs set_up_begin; allows = λ x. set_up.Reads.Learnt κs set_up_begin x.answer (set_up_end x) }
 

@@ -33,7 +33,7 @@ pub record Stands (w : World) : Type 0 where
 pub record Agrees (past : History) : Type 0 where
   -- The world stands.
   pub stands : Stands (world past)
-  -- It has the words and the keep length of set_up.
+  -- It has the words and the keep length of set-up.
   pub long : length (world past).heap ≡ words_of past
   pub keep : (world past).state.keep ≡ keep_of past
   -- What is on its map is held.

@@ -44,7 +44,7 @@ happens z (write a k v) answer = let x : Written = hx_writes z.state z.heap z.ma
 happens z (collect roots) answer = let x : Collecting = hx_collects z.state z.heap roots z.map z.stack z.list answer in record { answer = x.code ∷ take 5 x.answer; left = station x.state z.heap x.map x.stack x.list }
 happens z survey answer = let x : Telling = hx_surveys z.state z.list answer in record { answer = x.code ∷ take 3 x.answer; left = z }
 
--- The station that set_up from C leaves, with words lent for its state.
+-- The station that set-up from C leaves, with words lent for its state.
 unfoldable pub new_station : List ℕ → ℕ → List ℕ → List ℕ → List ℕ → List ℕ → Station
 new_station heap t map stack list state = let x : SettingUp = hx_sets_up heap t map list state in station x.state heap x.map stack x.list
 

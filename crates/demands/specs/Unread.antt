@@ -11,7 +11,7 @@ pub record Alike (n : ℕ) (one other : List ℕ) : Type 0 where
   pub long : length one ≡ length other
   pub front : take n one ≡ take n other
 
--- Two outcomes of set_up have one answer, and their buffers are alike.
+-- Two outcomes of set-up have one answer, and their buffers are alike.
 pub record SetUpAlike (h t : ℕ) (one other : Prepared) : Type 0 where
   pub answer : one.answer ≡ other.answer
   pub map : Alike (map_words h) one.map other.map

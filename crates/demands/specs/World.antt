@@ -31,15 +31,15 @@ On w a = is_start (length w.heap) w.map a ≡ true
 abbrev pub field_at : World → ℕ → ℕ → ℕ
 field_at w a k = get_or w.heap (word_of a k) 0
 
--- The world that set_up makes of a heap, a stack, and what it has prepared.
+-- The world that set-up makes of a heap, a stack, and what it has prepared.
 abbrev pub begun : List ℕ → List ℕ → Prepared → World
 begun heap stack x = made heap x.answer.state x.map stack x.list
 
--- The world that set_up leaves of a heap, a keep length, and a map, a stack and a list that are lent.
+-- The world that set-up leaves of a heap, a keep length, and a map, a stack and a list that are lent.
 unfoldable pub new_world : List ℕ → ℕ → List ℕ → List ℕ → List ℕ → World
 new_world heap t map stack list = begun heap stack (sets_up heap t map list)
 
--- A call after set_up, with what its caller chooses.
+-- A call after set-up, with what its caller chooses.
 pub data Call : Type 0 where
   allot : (s p : ℕ) → Call
   read : (a k : ℕ) → Call

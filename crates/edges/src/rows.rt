@@ -1,4 +1,4 @@
-// The lines: the first letter of each says what it tries. r asks for room figures, s for a set_up, any other is for the list.
+// The lines: the first letter of each says what it tries. r asks for room figures, s for a set-up, any other is for the list.
 use crate::{buffer, lists};
 use layout::{Rooms, SetUp, State};
 use libc::STDOUT_FILENO;
@@ -9,7 +9,7 @@ fn rooms(words: usize, keep: usize) {
     lines::gave(&[rooms.map, rooms.stack, rooms.list]);
 }
 
-// What set_up answered: its code; words, keep and count of the state.
+// What set-up answered: its code; words, keep and count of the state.
 fn answer(got: SetUp) {
     let state = got.state;
     lines::gave(&[got.code as usize, state.words, state.keep, state.count]);

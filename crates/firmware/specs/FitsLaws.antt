@@ -37,7 +37,7 @@ use Rattle.firmware.specs.Fits.{StateFits, CollectedFits, AllottedFits, FiguresF
 pub lent_fits : {state : State} (words : List ℕ) → state ≡ state_in words → Words words → StateFits state
 lent_fits words e w = rw e (record { words = w 0; keep = w 1; count = w 2 })
 
--- The state that set_up hands out.
+-- The state that set-up hands out.
 sets_up_fits : (heap : List ℕ) (t : ℕ) (map list : List ℕ) → StateFits (sets_up heap t map list).answer.state
 unfolding sets_up first_list
 sets_up_fits heap t map list =

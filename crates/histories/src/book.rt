@@ -32,7 +32,7 @@ fn place(kind: u8, code: u32) -> usize
     }
 }
 
-// The same for calls that are never refused here: c is a collection, s a survey, any other letter a set_up.
+// The same for calls that are never refused here: c is a collection, s a survey, any other letter a set-up.
 fn whole(kind: u8, code: u32) -> usize
     ensures { result ≤ 13 }
 {

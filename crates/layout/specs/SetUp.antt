@@ -6,7 +6,7 @@ use Rattle.layout.specs.Refusal.{unless}
 use Rattle.layout.specs.declared.Interval.{Interval}
 use Rattle.layout.specs.declared.SetUp.{SetUp}
 
--- What set_up answers, and what stands in map and list afterwards.
+-- What set-up answers, and what stands in map and list afterwards.
 pub record Prepared : Type 0 where
   pub answer : SetUp
   pub map : List ℕ
@@ -20,7 +20,7 @@ prepared answer map list = record { answer = answer; map = map; list = list }
 unfoldable pub first_list : ℕ → ℕ → List Interval
 first_list h t = cond (leb t (h - 1)) (record { start = 1; size = h - 1 } ∷ []) []
 
--- A refused set_up has its number and a state of zeros.
+-- A refused set-up has its number and a state of zeros.
 abbrev pub set_up_refused : ℕ → SetUp
 set_up_refused n = record { code = n; state = record { words = 0; keep = 0; count = 0 } }
 

@@ -43,7 +43,7 @@ module _ (h t : ℕ) (keeps : 1 ≤ t) (l : t ≤ h - 1) where
       rw (le-leb t (h - 1) l, e, d)
 
 module _ (heap : List ℕ) (t : ℕ) (map list : List ℕ) {rooms : Rooms} (e : rooms ≡ rooms_of (length heap) t) where
-  -- Where the map figure is 0 set_up refuses with 1.
+  -- Where the map figure is 0 set-up refuses with 1.
   pub refuses_limits : rooms.map ≡ 0 → prepared (set_up_refused 1) map list ≡ sets_up heap t map list
   unfolding sets_up
   refuses_limits z = rw (map_zero (length heap) t e z)

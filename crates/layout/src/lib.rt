@@ -1,4 +1,4 @@
-// What a caller lends and hands in: limits, room figures, the state and set_up.
+// What a caller lends and hands in: limits, room figures, the state and set-up.
 #![tactic(auto)]
 
 pub mod parts;
@@ -50,7 +50,7 @@ pub struct State {
     pub count: usize,
 }
 
-// What set_up answers: the refusal's number or 0, and the state.
+// What set-up answers: the refusal's number or 0, and the state.
 #[derive(Clone, Copy)]
 pub struct SetUp {
     pub code: u32,

@@ -30,7 +30,7 @@ lines_after c list =
     (unless (eqb s.code 0) (code_lines s.code 0)
     (count_lines c s.figures ++ free_lines (records c.state.count list)))
 
--- What is printed for an image: set_up and collection in lent buffers, and then a survey.
+-- What is printed for an image: set-up and collection in lent buffers, and then a survey.
 unfoldable pub image_lines_in : List ℕ → ℕ → List ℕ → List ℕ → List ℕ → List ℕ → List ℕ
 image_lines_in heap t roots map stack list =
     let fresh : Prepared = sets_up heap t map list in

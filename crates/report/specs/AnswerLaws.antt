@@ -31,7 +31,7 @@ use Rattle.report.specs.Puts.{puts}
 use Rattle.report.specs.PutsLaws.{puts_fits}
 use Rattle.report.specs.PrintedLaws.{decimals_short, frees_short}
 
--- Once set_up and collection have answered, what is printed goes by the answer and the list.
+-- Once set-up and collection have answered, what is printed goes by the answer and the list.
 pub image_answered : (heap : List ℕ) (t : ℕ) (roots : List ℕ) {fresh : SetUp} {map list : List ℕ} → prepared fresh map list ≡ sets_up heap t clear_map clear_list
     → {found : Collected} {map' stack' list' : List ℕ} → left found map' stack' list' ≡ collects fresh.state heap roots map clear_stack list → lines_after found list' ≡ image_lines heap t roots
 unfolding image_lines image_lines_in
