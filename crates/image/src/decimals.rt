@@ -2,7 +2,7 @@
 ghost use Rattle.std.specs.Prelude.{◌≡◌};
 ghost use Rattle.image.specs.Decimal.{is_digit, is_plain, digits_on, decimal_of, both, pair_of};
 
-use bytes::scan;
+use crate::scan;
 
 // What a decimal is: a number, or wrong.
 #[derive(Drop)]

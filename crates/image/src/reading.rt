@@ -17,7 +17,7 @@ const MAX_HEAP: usize = 4096;
 const MAX_IMAGE_ROOTS: usize = 1024;
 
 // How many lines were read, the address that the last `word` line names, keep length, and how many roots and words there are.
-#[derive(Drop)]
+#[derive(Clone, Copy)]
 pub struct SoFar {
     pub lines: usize,
     pub last: usize,
