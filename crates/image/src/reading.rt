@@ -27,14 +27,14 @@ pub struct SoFar {
 }
 
 // What one line more makes: more was read, or the line is wrong where it stands.
-#[derive(Drop)]
+#[derive(Clone, Copy)]
 pub(crate) enum Next {
     On(SoFar),
     Off,
 }
 
 // What a text is: an image, or wrong, with the number of its first wrong line, or with 0 if it is too long.
-#[derive(Drop)]
+#[derive(Clone, Copy)]
 pub enum ReadText {
     Right(SoFar),
     WrongLine(usize),
