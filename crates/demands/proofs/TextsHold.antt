@@ -1,6 +1,6 @@
 -- The worked examples of the text program hold, by computing.
 use Rattle.std.specs.Prelude.{◌≡◌, refl, map}
-use Rattle.bytes.specs.Bytes.{index_after, index_of}
+use Rattle.image.specs.Bytes.{index_after, index_of}
 use Rattle.words.specs.Header.{size_at, refs_at, header_word, well_formed, fields_of}
 use Rattle.words.specs.Map.{bit_at, set_bit, is_start, some_below, covered}
 use Rattle.layout.specs.Intervals.{flat, shown}

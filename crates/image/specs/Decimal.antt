@@ -1,6 +1,6 @@
 -- Decimals and pairs, as parts of a line.
 use Rattle.std.specs.Prelude.{ℕ, suc, ◌+◌, ◌-◌, ◌*◌, ◌^◌, Bool, true, false, not, ◌&&◌, List, [], ◌∷◌, take, drop, leb, ltb, eqb}
-use Rattle.bytes.specs.Bytes.{index_of}
+use Rattle.image.specs.Bytes.{index_of}
 use Rattle.layout.specs.Refusal.{unless}
 use Rattle.image.specs.declared.decimals.Number.{Number}
 use Rattle.image.specs.declared.decimals.Number.TheVariants.{Is, Wrong}

@@ -4,9 +4,9 @@ use Rattle.std.specs.Prelude.{◌≡◌, refl, ◌≢◌, true, false, not, List
 use Rattle.std.proofs.Math.Bool.{and-eq-true_iff}
 use Rattle.std.proofs.Math.Numerals.{add-one}
 use Rattle.std.proofs.Common.{arith, drop_of_length-le, drop-cons}
-use Rattle.std.proofs.Math.Seq.{take-length}
 use borrow.Author.Tests.{leb-true, lt-ltb, le-ltb}
-use Rattle.bytes.specs.Bytes.{index_of, slice}
+use Rattle.image.specs.Bytes.{index_of, slice}
+use Rattle.image.specs.BytesLaws.{slice_whole}
 use Rattle.image.specs.Decimal.{is_digit, digits_on, is_plain, decimal_of, both, pair_of}
 use Rattle.image.specs.declared.decimals.Number.{Number}
 use Rattle.image.specs.declared.decimals.Number.TheVariants.{Is, Wrong}
@@ -86,8 +86,7 @@ second_wrong Wrong = refl
 module _ (part : List ℕ) {c : ℕ} (found : c ≡ 0 + index_of 44 (slice 0 (length part) part)) where
   -- It finds the first.
   comma : c ≡ index_of 44 part
-  unfolding slice
-  comma = rw (found, take-length part) (omega arith)
+  comma = rw (found, slice_whole part) (omega arith)
 
   -- Without one there is no pair.
   pub pair_refused : c ≡ length part → NoPair ≡ pair_of part

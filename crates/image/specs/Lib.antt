@@ -1,4 +1,6 @@
 pub mod Ascii
+pub mod Bytes
+pub mod BytesLaws
 pub mod Lines
 pub mod LinesLaws
 pub mod Decimal

@@ -1,6 +1,6 @@
 -- The lines of a text.
 use Rattle.std.specs.Prelude.{ℕ, cond, ◌&&◌, List, [], ◌∷◌, length, take, leb, ltb, eqb}
-use Rattle.bytes.specs.Bytes.{index_of}
+use Rattle.image.specs.Bytes.{index_of}
 use Rattle.layout.specs.Refusal.{unless}
 
 -- The most bytes of a line, without the LF that ends it.

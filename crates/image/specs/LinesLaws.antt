@@ -4,7 +4,7 @@ use Rattle.std.proofs.Common.{ap, arith, length-drop, take_all, take-take, lengt
 use Rattle.std.proofs.Math.Bool.{and-false, and-eq-true_iff}
 use Rattle.std.proofs.Math.Decide.{dec_le}
 use Rattle.std.proofs.lemmas.Bool.{lt-leb}
-use Rattle.bytes.specs.Bytes.{index_after, index_of}
+use Rattle.image.specs.Bytes.{index_after, index_of}
 use Rattle.layout.specs.RefusalLaws.{by_test}
 use Rattle.image.specs.Lines.{max_line, first_line, before, lines_of}
 

@@ -4,7 +4,7 @@ use Rattle.std.proofs.Math.Path.{sym}
 use Rattle.std.proofs.Common.{◌∙◌, ap, subst, le_refl, le-add_left, arith, length-drop, drop_of_length-le, drop-drop}
 use Rattle.std.proofs.Math.Bool.{and-eq-true_iff}
 use borrow.Author.Tests.{eqb-true, le-leb, lt-leb}
-use Rattle.bytes.specs.Bytes.{index_of}
+use Rattle.image.specs.Bytes.{index_of}
 use Rattle.layout.specs.Limits.{max_keep}
 use Rattle.layout.specs.RefusalLaws.{by_test}
 use Rattle.image.specs.Ascii.{ascii}

@@ -2,17 +2,17 @@
 ghost use Rattle.std.specs.Prelude.{◌≡◌};
 ghost use Rattle.image.specs.Decimal.{is_digit, is_plain, digits_on, decimal_of, both, pair_of};
 
-use bytes::scan;
+use crate::scan;
 
 // What a decimal is: a number, or wrong.
-#[derive(Drop)]
+#[derive(Clone, Copy)]
 pub enum Number {
     Is(u32),
     Wrong,
 }
 
 // What a pair is: two numbers, or no pair.
-#[derive(Drop)]
+#[derive(Clone, Copy)]
 pub(crate) enum Pair {
     Are(u32, u32),
     NoPair,

@@ -5,5 +5,6 @@ mod decimals;
 mod line;
 mod reader;
 mod reading;
+mod scan;
 
 pub use reading::{ReadText, SoFar, read};

@@ -2,7 +2,7 @@
 ghost use Rattle.std.specs.Prelude.{◌≡◌, ◌≤◌, length, drop};
 ghost use Rattle.image.specs.Lines.{first_line};
 
-use bytes::scan;
+use crate::scan;
 
 // The most bytes of a line, without the LF that ends it.
 const MAX_LINE: usize = 32;

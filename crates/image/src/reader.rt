@@ -5,7 +5,7 @@ ghost use Rattle.image.specs.Lines.{first_line};
 use crate::line;
 
 // A text, and the place of a line in it.
-#[derive(Drop)]
+#[derive(Clone, Copy)]
 pub(crate) struct Reader<'a> {
     pub text: &'a [u8],
     pub at: usize,

@@ -17,7 +17,7 @@ const MAX_HEAP: usize = 4096;
 const MAX_IMAGE_ROOTS: usize = 1024;
 
 // How many lines were read, the address that the last `word` line names, keep length, and how many roots and words there are.
-#[derive(Drop)]
+#[derive(Clone, Copy)]
 pub struct SoFar {
     pub lines: usize,
     pub last: usize,
@@ -27,14 +27,14 @@ pub struct SoFar {
 }
 
 // What one line more makes: more was read, or the line is wrong where it stands.
-#[derive(Drop)]
+#[derive(Clone, Copy)]
 pub(crate) enum Next {
     On(SoFar),
     Off,
 }
 
 // What a text is: an image, or wrong, with the number of its first wrong line, or with 0 if it is too long.
-#[derive(Drop)]
+#[derive(Clone, Copy)]
 pub enum ReadText {
     Right(SoFar),
     WrongLine(usize),

@@ -1,5 +1,5 @@
 -- Laws of an answer: its ways out, and its length.
-use Rattle.std.specs.Prelude.{ℕ, ◌-◌, ◌*◌, ◌≤◌, ◌<◌, ◌≡◌, refl, ◌≢◌, length, take, drop, leb, eqb}
+use Rattle.std.specs.Prelude.{ℕ, ◌*◌, ◌≤◌, ◌<◌, ◌≡◌, refl, ◌≢◌, length, take, drop, leb, eqb}
 use Rattle.std.proofs.Math.Path.{sym, ap}
 use Rattle.std.proofs.Common.{◌∙◌, subst, arith, length-append, take_at}
 use mathlib.Core.List.{List, ◌++◌}
