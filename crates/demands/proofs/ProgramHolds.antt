@@ -20,7 +20,7 @@ use Rattle.demands.specs.World.{World, collects_on, new_world, effect}
 use Rattle.demands.proofs.StandsLaws.{rerooted, stands_surveyed}
 use Rattle.demands.proofs.Demand3SetUpHolds.{set_up_left, set_up_stands}
 use Rattle.demands.proofs.Demand3CollectHolds.{sound_succeeds, sound_finds, sound_stands}
-use Rattle.demands.specs.Sameness.{Loan, answer_contract}
+use Rattle.demands.specs.Sameness.{Loan, MutLoan, answer_contract}
 use Rattle.demands.proofs.SamenessHolds.{carries, answer_settled}
 use Rattle.demands.specs.Program.{Prints, sound, unsound}
 
@@ -97,7 +97,7 @@ unfolding answer
 program_wrong text line e = rw e
 
 -- So it is of every outcome that the contract of `answer` allows, in a buffer that is long enough.
-module _ (κs : Lfts 2) (text out : Loan) (enough : answer_room ≤ length out.now) where
+module _ (κs : Lfts 2) (text : Loan) (out : MutLoan) (enough : answer_room ≤ length out.now) where
   -- Of a right text.
   pub answer_prints : (image : Image) → text_of text.now ≡ right image → (x : Output) → (answer_contract κs text out).allows x → Prints image.heap image.keep image.roots (take x.count x.out)
   answer_prints image e =
