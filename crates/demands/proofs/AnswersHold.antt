@@ -8,7 +8,7 @@ use Rattle.words.proofs.HeaderLaws.{equal_size, equal_refs}
 use Rattle.layout.specs.declared.State.{State}
 use Rattle.freelist.specs.Records.{records}
 use Rattle.freelist.specs.Figures.{figures_of}
-use Rattle.store.specs.Fields.{Written, object_code, field_code, takes}
+use Rattle.store.specs.Fields.{Written, object_code, field_code}
 use Rattle.store.proofs.FieldsLaws.{start_takes, takes_start, no_start, no_field, has_field, read_refused, read_given, write_refused, write_untaken, write_stored}
 use Rattle.demands.specs.Reach.{Reach}
 use Rattle.demands.specs.World.{collect, field_at, reads_on, surveys_on, writes_on, On}

@@ -1,6 +1,6 @@
 -- A short history keeps the premises, and an object is held after it: demand 3 is not said of nothing.
-use Rattle.std.specs.Prelude.{ℕ, ◌≡◌, refl}
-use Rattle.std.proofs.Common.{subst, sym, inl, inr, arith}
+use Rattle.std.specs.Prelude.{refl}
+use Rattle.std.proofs.Common.{subst, sym, inr, arith}
 use mathlib.Core.List.Memᴰ
 use mathlib.Core.List.{[], ◌∷◌, Memᴰ}
 use Rattle.words.specs.Header.{size_at, refs_at, header_word, well_formed}

@@ -12,7 +12,7 @@ use Rattle.words.proofs.CoverLaws.{owner_covers, covered_owner}
 use Rattle.layout.specs.LimitsLaws.{bit_inside}
 use Rattle.runs.proofs.LongestLaws.{clash}
 use Rattle.marking.specs.Marking.{overlaps}
-use Rattle.marking.specs.Meets.{New, apart}
+use Rattle.marking.specs.Meets.{New}
 use Rattle.marking.proofs.MeetLaws.{overlaps_some, overlaps_none}
 use Rattle.demands.specs.Reach.{Reach, by_field, Overlap, Fault, overlap}
 use Rattle.demands.specs.Demand2.{total}

@@ -1,5 +1,5 @@
 -- A history of calls from C is a history of calls: what holds of the one holds of the other.
-use Rattle.std.specs.Prelude.{ℕ, ◌≤◌, ◌≡◌, refl, List, [], ◌∷◌, length, drop}
+use Rattle.std.specs.Prelude.{ℕ, ◌≤◌, ◌≡◌, refl, List, length, drop}
 use Rattle.std.proofs.Common.{ap, ◌∙◌, arith, length-append, length-drop, le-leb}
 use Rattle.firmware.specs.Lent.{state_room, state_words, fronted}
 use Rattle.firmware.specs.Calls.{hx_sets_up, hx_collects, hx_allots, hx_reads, hx_writes, hx_surveys}

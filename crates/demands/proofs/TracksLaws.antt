@@ -6,7 +6,6 @@ use mathlib.Core.List.{List, [], ◌∷◌, ◌++◌, Memᴰ}
 use Rattle.std.proofs.Common.{arith}
 use Rattle.std.proofs.Math.ListN.{length, length-replicate, length-append}
 use Rattle.words.specs.Header.{size_at, fields_of}
-use Rattle.words.proofs.HeaderLaws.{formed}
 use Rattle.words.specs.Map.{bit_at}
 use Rattle.words.proofs.MapLaws.{bit_zeros}
 use Rattle.layout.specs.Limits.{map_words}

@@ -1,5 +1,4 @@
 -- `records::are_valid`: what the rule says of all records is what it says of those left, from the end of the last one on.
-use Prim.Native.Nat.{◌-◌}
 use mathlib.Core.Path.{sym, ◌∙◌}
 use native.Mathlib.Omega.{arith}
 use borrow.Author.Rules.{rules}

@@ -1,5 +1,4 @@
 -- `search::fitting`: what the search finds in the whole list it finds from record i on.
-use Prim.Native.Nat.{◌-◌}
 use mathlib.Core.Path.{refl, sym, ap, ◌∙◌}
 use native.Mathlib.Omega.{arith}
 use borrow.Author.Rules.{rules}

@@ -1,5 +1,5 @@
 -- `random::objects` is safe and ends: each object ends within the heap.
-use Rattle.std.proofs.Common.{◌≡◌, ◌+◌, ◌-◌, ◌≤◌, length}
+use Rattle.std.proofs.Common.{◌≡◌, ◌+◌, ◌≤◌, length}
 use Rattle.heaps.proofs.random.objects.Given as goal
 
 abbrev pub invariant-loop-i : goal.invariant-loop-i

@@ -1,5 +1,5 @@
 -- `parts::clear`: the words before i are 0, the others as they came.
-use Prim.Native.Nat.{ℕ, ◌-◌, zero-le}
+use Prim.Native.Nat.{ℕ, zero-le}
 use mathlib.Core.Path.{◌≡◌, refl, ap, subst, ◌∙◌}
 use mathlib.Core.List.{List, ◌++◌, append-nil}
 use native.Mathlib.Nat.{le_antisymm}

@@ -1,5 +1,5 @@
 -- `moves::up`: the words from i on stand two places higher already.
-use Prim.Native.Nat.{◌-◌, ◌≤◌}
+use Prim.Native.Nat.{◌≤◌}
 use mathlib.Core.Path.{◌≡◌}
 use lib.ListN.{length}
 use Rattle.split.specs.MovesLaws.{rising}

@@ -1,5 +1,4 @@
 -- `Figures::of`: what is added up so far, with what is left, are the figures of the whole list.
-use Prim.Native.Nat.{◌-◌}
 use mathlib.Core.Path.{◌≡◌, ap}
 use native.Mathlib.Omega.{arith}
 use borrow.Author.Rules.{rules}
