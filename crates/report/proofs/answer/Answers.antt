@@ -1,4 +1,4 @@
--- `answer`: the text is an image that is image-lines, or wrong, and what is written is the definition's answer.
+-- `answer`: the text is an image whose lines are written, or wrong, and what is written is the definition's answer.
 use mathlib.Core.Path.{sym}
 use native.Mathlib.Omega.{arith}
 use lib.Seq.{length-take-le}
