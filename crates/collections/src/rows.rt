@@ -8,14 +8,17 @@ use std::io::Write;
 // Prints what a collection answered: code and place, the counts; words, keep and count of the state.
 fn answer<W: Write>(out: &mut W, got: Collected) -> io::Result<()> {
     let state = got.state;
-    lines::gave(out, &[
-        got.code as usize,
-        got.place,
-        got.objects,
-        got.live,
-        got.references,
-        got.peak,
-    ])?;
+    lines::gave(
+        out,
+        &[
+            got.code as usize,
+            got.place,
+            got.objects,
+            got.live,
+            got.references,
+            got.peak,
+        ],
+    )?;
     lines::numbers(out, &[state.words, state.keep, state.count], b" ")
 }
 
@@ -29,7 +32,10 @@ fn collect<W: Write>(
     stack: &mut [u32],
     list: &mut [u32],
 ) -> io::Result<()> {
-    answer(out, collector::collect(state, heap, roots, map, stack, list))?;
+    answer(
+        out,
+        collector::collect(state, heap, roots, map, stack, list),
+    )?;
     lines::buffer(out, map)?;
     lines::buffer(out, stack)?;
     lines::buffer(out, list)
@@ -88,7 +94,13 @@ fn lent(place: [usize; 48]) -> Rooms {
 }
 
 // Lays the heap, and collects in buffers full of junk.
-fn lay_and_collect<W: Write>(out: &mut W, kind: u8, place: [usize; 48], heap: &mut [u32], roots: &mut [u32]) -> io::Result<()> {
+fn lay_and_collect<W: Write>(
+    out: &mut W,
+    kind: u8,
+    place: [usize; 48],
+    heap: &mut [u32],
+    roots: &mut [u32],
+) -> io::Result<()> {
     heaps::lay(kind, place, heap, roots);
     let mut map = heaps::junk();
     let mut stack = heaps::junk();
@@ -106,7 +118,13 @@ fn lay_and_collect<W: Write>(out: &mut W, kind: u8, place: [usize; 48], heap: &m
 }
 
 // The same in parts of heap and root list as long as the line says.
-fn lay_in_parts<W: Write>(out: &mut W, kind: u8, place: [usize; 48], heap: &mut [u32], roots: &mut [u32]) -> io::Result<()> {
+fn lay_in_parts<W: Write>(
+    out: &mut W,
+    kind: u8,
+    place: [usize; 48],
+    heap: &mut [u32],
+    roots: &mut [u32],
+) -> io::Result<()> {
     let h = place[4];
     let r = place[8];
     if heap.len() < h {

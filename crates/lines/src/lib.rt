@@ -8,7 +8,7 @@ use std::io::Write;
 use words::wide;
 
 // A line: the number in each place, where places are parted by a space, and where the line ends.
-#[derive(Drop)]
+#[derive(Clone, Copy)]
 pub struct Line {
     pub place: [usize; 48],
     pub end: usize,
