@@ -1,6 +1,5 @@
 -- `line_at` is safe and ends, and stays within the text.
-use Prim.Native.Nat.{◌-◌, ◌≤◌}
-use lib.ListN.{length}
+use Rattle.std.proofs.Common.{◌-◌, ◌≤◌, length}
 use Rattle.lines.proofs.line_at.Given as goal
 
 abbrev pub invariant-loop-end : goal.invariant-loop-end
