@@ -6,6 +6,8 @@ ghost use Rattle.freelist.specs.Records.{valid_list};
 use freelist::search::Found;
 use freelist::{Figures, records, search};
 use layout::Rooms;
+use std::io;
+use std::io::Write;
 
 // Word i of the list that a line gives.
 fn given(place: [usize; 48], i: usize) -> u32 {
@@ -44,50 +46,69 @@ fn comb(words: usize, list: &mut [u32]) -> usize {
 }
 
 // Prints the record's place, the new count, a sum over the words of the list and, of a short list, all of them.
-fn report(j: usize, count: usize, list: &[u32]) {
-    lines::gave(&[1, j, count]);
-    lines::buffer(list);
+fn report<W: Write>(out: &mut W, j: usize, count: usize, list: &[u32]) -> io::Result<()> {
+    lines::gave(out, &[1, j, count])?;
+    lines::buffer(out, list)
 }
 
 // The survey's figures. Came: 1 and listed, largest, fragment.
-fn figures(list: &[u32], count: usize, words: usize, keep: usize)
+fn figures<W: Write>(
+    out: &mut W,
+    list: &[u32],
+    count: usize,
+    words: usize,
+    keep: usize,
+) -> io::Result<()>
     requires { (within words keep ≡ true) × (length list.now ≡ list_words words keep) × (valid_list words keep count list.now ≡ true) }
 {
     let figures = Figures::of(list, count);
-    lines::gave(&[1, figures.listed, figures.largest, figures.fragment]);
+    lines::gave(out, &[1, figures.listed, figures.largest, figures.fragment])
 }
 
 // The s words from a on are taken off. Came: 1 and the count where no record holds them, or the report.
-fn off(list: &mut [u32], count: usize, words: usize, keep: usize, a: usize, s: usize)
+fn off<W: Write>(
+    out: &mut W,
+    list: &mut [u32],
+    count: usize,
+    words: usize,
+    keep: usize,
+    a: usize,
+    s: usize,
+) -> io::Result<()>
     requires { (within words keep ≡ true) × (length list.old ≡ list_words words keep) × (valid_list words keep count list.old ≡ true) }
 {
     if s == 0 {
-        return;
+        return Ok(());
     }
     if words < s {
-        return;
+        return Ok(());
     }
     if words < a {
-        return;
+        return Ok(());
     }
     let Found::At(j) = search::holding(list, count, a, s) else {
-        lines::gave(&[1, count]);
-        return;
+        return lines::gave(out, &[1, count]);
     };
     let left = split::take_off(list, count, keep, a, s, j);
-    report(j, left, list);
+    report(out, j, left, list)
 }
 
 // The first s words of the first record that has them are taken. Came: as above.
-fn front(list: &mut [u32], count: usize, words: usize, keep: usize, s: usize)
+fn front<W: Write>(
+    out: &mut W,
+    list: &mut [u32],
+    count: usize,
+    words: usize,
+    keep: usize,
+    s: usize,
+) -> io::Result<()>
     requires { (within words keep ≡ true) × (length list.old ≡ list_words words keep) × (valid_list words keep count list.old ≡ true) }
 {
     let Found::At(j) = search::fitting(list, count, s) else {
-        lines::gave(&[1, count]);
-        return;
+        return lines::gave(out, &[1, count]);
     };
     let left = split::take_front(list, count, keep, s, j);
-    report(j, left, list);
+    report(out, j, left, list)
 }
 
 // The list of a trial: a comb for c, else the one that the line gives. The count.
@@ -100,43 +121,61 @@ fn laid(kind: u8, place: [usize; 48], list: &mut [u32]) -> usize {
 }
 
 // A trial of a list that passed: l asks for figures, f takes a front, any other takes words off.
-fn passed(kind: u8, list: &mut [u32], count: usize, words: usize, keep: usize, a: usize, s: usize)
+fn passed<W: Write>(
+    out: &mut W,
+    kind: u8,
+    list: &mut [u32],
+    count: usize,
+    words: usize,
+    keep: usize,
+    a: usize,
+    s: usize,
+) -> io::Result<()>
     requires { (within words keep ≡ true) × (length list.old ≡ list_words words keep) × (valid_list words keep count list.old ≡ true) }
 {
     if kind == b'l' {
-        figures(list, count, words, keep);
-        return;
+        return figures(out, list, count, words, keep);
     }
     if kind == b'f' {
-        front(list, count, words, keep, s);
-        return;
+        return front(out, list, count, words, keep, s);
     }
-    off(list, count, words, keep, a, s);
+    off(out, list, count, words, keep, a, s)
 }
 
 // A trial in the needed part of the list. Came: 0 where refusal 3 is given.
-fn in_part(kind: u8, place: [usize; 48], list: &mut [u32], words: usize, keep: usize)
+fn in_part<W: Write>(
+    out: &mut W,
+    kind: u8,
+    place: [usize; 48],
+    list: &mut [u32],
+    words: usize,
+    keep: usize,
+) -> io::Result<()>
     requires { (within words keep ≡ true) × (length list.old ≡ list_words words keep) }
 {
     let count = laid(kind, place, list);
     if !records::are_valid(list, count, words, keep) {
-        lines::gave(&[0]);
-        return;
+        return lines::gave(out, &[0]);
     }
-    passed(kind, list, count, words, keep, place[3], place[4]);
+    passed(out, kind, list, count, words, keep, place[3], place[4])
 }
 
 // A trial of the list.
-pub(crate) fn trial(kind: u8, place: [usize; 48], list: &mut [u32]) {
+pub(crate) fn trial<W: Write>(
+    out: &mut W,
+    kind: u8,
+    place: [usize; 48],
+    list: &mut [u32],
+) -> io::Result<()> {
     let words = place[1];
     let keep = place[2];
     let rooms = Rooms::of(words, keep);
     let n = rooms.list;
     if rooms.map == 0 {
-        return;
+        return Ok(());
     }
     if list.len() < n {
-        return;
+        return Ok(());
     }
-    in_part(kind, place, &mut list[..n], words, keep);
+    in_part(out, kind, place, &mut list[..n], words, keep)
 }

@@ -4,6 +4,9 @@
 // 18 a digest of every answer.
 ghost use Rattle.std.specs.Prelude.{◌<◌, ◌≤◌};
 
+use std::io;
+use std::io::Write;
+
 // The place where calls are counted that have such a letter and gave such a number.
 fn place(kind: u8, code: u32) -> usize
     ensures { result ≤ 13 }
@@ -78,6 +81,6 @@ pub(crate) fn note(book: &mut [usize; 19], kind: u8, code: u32, came: &[usize]) 
 }
 
 // Prints " gave" and all numbers of the book.
-pub(crate) fn print(book: &[usize; 19]) {
-    lines::gave(book);
+pub(crate) fn print<W: Write>(out: &mut W, book: &[usize; 19]) -> io::Result<()> {
+    lines::gave(out, book)
 }

@@ -7,10 +7,16 @@ mod each;
 mod rows;
 mod turns;
 
-use libc::STDIN_FILENO;
+use std::io;
+use std::io::{BufWriter, Read, Write};
 
-fn main() {
-    let mut text = io::large_buffer();
-    let n = io::read_full(STDIN_FILENO, &mut text);
-    rows::all(&text[..n]);
+// What is read at most.
+const LONGEST: u64 = 65536;
+
+fn main(rt: HostRuntime) -> io::Result<()> {
+    let mut text = Vec::new(rt.alloc());
+    rt.stdin().take(LONGEST).read_to_end(&mut text)?;
+    let mut out = BufWriter::new(rt.alloc(), rt.stdout())?;
+    rows::all(&mut out, &text)?;
+    out.flush()
 }

@@ -4,6 +4,8 @@ ghost use Rattle.std.specs.Prelude.{◌≤◌};
 
 use crate::{book, choice, each, turns};
 use layout::{Rooms, State};
+use std::io;
+use std::io::Write;
 
 // The turns of a history.
 fn play(
@@ -29,19 +31,20 @@ fn play(
 }
 
 // Sets up once and plays. Came: the book; sums over all words lent of heap, map, stack and list.
-fn history(
+fn history<W: Write>(
+    out: &mut W,
     place: [usize; 48],
     heap: &mut [u32],
     map: &mut [u32],
     stack: &mut [u32],
     list: &mut [u32],
-) {
+) -> io::Result<()> {
     let mut slots = [0; 24];
     let mut book = [0; 19];
     let state = each::set_up(place[2], &mut book, heap, map, list);
     play(place, state, &mut slots, &mut book, heap, map, stack, list);
-    book::print(&book);
-    lines::numbers(&turns::sums(heap, map, stack, list), b" ");
+    book::print(out, &book)?;
+    lines::numbers(out, &turns::sums(heap, map, stack, list), b" ")
 }
 
 // How many words of a buffer are lent, where so many are needed and so many more are asked for.
@@ -52,7 +55,7 @@ fn lent(needed: usize, more: usize) -> usize
 }
 
 // A history in parts of buffers full of junk, as long as a line says.
-fn begin(place: [usize; 48]) {
+fn begin<W: Write>(out: &mut W, place: [usize; 48]) -> io::Result<()> {
     let h = heaps::part(place[1]);
     let rooms = Rooms::of(h, place[2]);
     let m = lent(rooms.map, place[3]);
@@ -63,22 +66,24 @@ fn begin(place: [usize; 48]) {
     let mut stack = heaps::junk();
     let mut list = heaps::junk();
     history(
+        out,
         place,
         &mut heap[..h],
         &mut map[..m],
         &mut stack[..a],
         &mut list[..n],
-    );
+    )
 }
 
 // All lines, a history each: prints the line, and behind it what came.
-pub(crate) fn all(text: &[u8]) {
+pub(crate) fn all<W: Write>(out: &mut W, text: &[u8]) -> io::Result<()> {
     let mut at = 0;
     while at < text.len() {
-        let line = lines::printed(text, at);
+        let line = lines::printed(out, text, at)?;
         let place = line.place;
-        begin(place);
-        lines::end();
+        begin(out, place)?;
+        lines::end(out)?;
         at = line.end + 1;
     }
+    Ok(())
 }

@@ -1,13 +1,14 @@
 // Lines of numbers, read and printed: what the test programs share.
 #![tactic(auto)]
 
-ghost use Rattle.std.specs.Prelude.{◌<◌, ◌≤◌, length};
+ghost use Rattle.std.specs.Prelude.{◌<◌, ◌≤◌, IfOk, length};
 
-use libc::STDOUT_FILENO;
+use std::io;
+use std::io::Write;
 use words::wide;
 
 // A line: the number in each place, where places are parted by a space, and where the line ends.
-#[derive(Drop)]
+#[derive(Clone, Copy)]
 pub struct Line {
     pub place: [usize; 48],
     pub end: usize,
@@ -62,41 +63,43 @@ pub fn line_at(text: &[u8], at: usize) -> Line
 }
 
 // The line that begins at `at`, as it was printed.
-pub fn printed(text: &[u8], at: usize) -> Line
+pub fn printed<W: Write>(out: &mut W, text: &[u8], at: usize) -> io::Result<Line>
     requires { at < length text.now }
-    ensures { (at ≤ result.end) × (result.end ≤ length text.now) }
+    ensures { IfOk result (λ line. (at ≤ line.end) × (line.end ≤ length text.now)) }
 {
     let line = line_at(text, at);
     let end = line.end;
-    io::write_all(STDOUT_FILENO, &text[at..end]);
-    line
+    out.write_all(&text[at..end])?;
+    Ok(line)
 }
 
 // Prints " gave" and the numbers that came.
-pub fn gave(came: &[usize]) {
-    io::write_all(STDOUT_FILENO, b" gave");
-    numbers(came, b" ");
+pub fn gave<W: Write>(out: &mut W, came: &[usize]) -> io::Result<()> {
+    out.write_all(b" gave")?;
+    numbers(out, came, b" ")
 }
 
 // Ends a line.
-pub fn end() {
-    io::write_all(STDOUT_FILENO, b"\n");
+pub fn end<W: Write>(out: &mut W) -> io::Result<()> {
+    out.write_all(b"\n")
 }
 
 // Prints numbers, each behind a space.
-pub fn numbers(came: &[usize], space: &[u8]) {
+pub fn numbers<W: Write>(out: &mut W, came: &[usize], space: &[u8]) -> io::Result<()> {
     for i in 0..came.len() {
-        io::write_all(STDOUT_FILENO, space);
-        io::print_decimal(STDOUT_FILENO, came[i] as u64);
+        out.write_all(space)?;
+        write!(out, "{}", came[i])?;
     }
+    Ok(())
 }
 
 // Prints the words of a list, each behind a space.
-fn all_words(list: &[u32], space: &[u8]) {
+fn all_words<W: Write>(out: &mut W, list: &[u32], space: &[u8]) -> io::Result<()> {
     for i in 0..list.len() {
-        io::write_all(STDOUT_FILENO, space);
-        io::print_decimal(STDOUT_FILENO, wide(list[i]) as u64);
+        out.write_all(space)?;
+        write!(out, "{}", wide(list[i]))?;
     }
+    Ok(())
 }
 
 // A sum with one number more, in which each place has a weight of its own.
@@ -123,9 +126,10 @@ pub fn sum(list: &[u32]) -> usize {
 }
 
 // Prints a sum over the words of a list and, of a short list, all of them.
-pub fn buffer(list: &[u32]) {
-    numbers(&[sum(list)], b" ");
+pub fn buffer<W: Write>(out: &mut W, list: &[u32]) -> io::Result<()> {
+    numbers(out, &[sum(list)], b" ")?;
     if list.len() <= 40 {
-        all_words(list, b" ");
+        all_words(out, list, b" ")?;
     }
+    Ok(())
 }

@@ -3,6 +3,8 @@
 ghost use Rattle.std.specs.Prelude.{◌<◌, ◌≤◌};
 
 use collector::Collected;
+use std::io;
+use std::io::Write;
 use std::num::wrapping_add_usize;
 
 // The numbers of the book.
@@ -42,14 +44,20 @@ pub(crate) fn note(book: &mut Book, got: Collected) {
 }
 
 // Notes what differs in an image, and prints it if it is the first that differs.
-pub(crate) fn differ(book: &mut Book, image: usize, differs: usize) {
+pub(crate) fn differ<W: Write>(
+    out: &mut W,
+    book: &mut Book,
+    image: usize,
+    differs: usize,
+) -> io::Result<()> {
     if differs == 0 {
-        return;
+        return Ok(());
     }
     add(book, 11, 1);
     if book[11] == 1 {
-        lines::numbers(&[image], b"image ");
-        lines::numbers(&[differs], b" differs in ");
-        lines::end();
+        lines::numbers(out, &[image], b"image ")?;
+        lines::numbers(out, &[differs], b" differs in ")?;
+        lines::end(out)?;
     }
+    Ok(())
 }

@@ -1,7 +1,8 @@
 // Changes to what came, which show that each comparison can fail. The number of a change is that of what differs then.
 use crate::compare::{Buffer, Numbers};
 use crate::{compare, images};
-use libc::STDOUT_FILENO;
+use std::io;
+use std::io::Write;
 use std::num::{wrapping_add_u32, wrapping_add_usize};
 
 // Adds 1 to a number, or to a word of map, stack or list, or changes nothing for 0.
@@ -22,14 +23,14 @@ pub(crate) fn change(
 }
 
 // Prints what differs in a sound image for each change, one at a time.
-pub(crate) fn run() {
+pub(crate) fn run<W: Write>(out: &mut W) -> io::Result<()> {
     let mut place = images::chain();
     let mut book = [0; 12];
-    io::write_all(STDOUT_FILENO, b"changed gave");
+    out.write_all(b"changed gave")?;
     for k in 1..13 {
         place[19] = k;
         let differs = compare::trial(b'o', place, &mut book);
-        lines::numbers(&[differs], b" ");
+        lines::numbers(out, &[differs], b" ")?;
     }
-    lines::end();
+    lines::end(out)
 }

@@ -3,7 +3,8 @@
 // damaged headers and overlaps, one time in so many and never for 0; of others the most words between objects.
 use crate::book::Book;
 use crate::{book, compare, images};
-use libc::STDOUT_FILENO;
+use std::io;
+use std::io::Write;
 
 // The numbers of a group.
 pub(crate) type Group = [usize; 8];
@@ -40,15 +41,15 @@ fn numbers(g: usize) -> Group {
 }
 
 // Prints the line of a group: its letter, its numbers, and the book.
-fn print(kind: u8, group: &Group, book: &Book) {
-    io::write_all(STDOUT_FILENO, &[kind]);
-    lines::numbers(group, b" ");
-    lines::gave(book);
-    lines::end();
+fn print<W: Write>(out: &mut W, kind: u8, group: &Group, book: &Book) -> io::Result<()> {
+    out.write_all(&[kind])?;
+    lines::numbers(out, group, b" ")?;
+    lines::gave(out, book)?;
+    lines::end(out)
 }
 
 // Tries the images of a group, from a seed on, and prints what came. The seed for the next group.
-pub(crate) fn run(g: usize, seed: usize) -> usize {
+pub(crate) fn run<W: Write>(out: &mut W, g: usize, seed: usize) -> io::Result<usize> {
     let kind = letter(g);
     let group = numbers(g);
     let mut book = [0; 12];
@@ -57,8 +58,8 @@ pub(crate) fn run(g: usize, seed: usize) -> usize {
         let place = images::image(kind, group, x);
         x = place[47];
         let differs = compare::trial(kind, place, &mut book);
-        book::differ(&mut book, i, differs);
+        book::differ(out, &mut book, i, differs)?;
     }
-    print(kind, &group, &book);
-    x
+    print(out, kind, &group, &book)?;
+    Ok(x)
 }

@@ -9,16 +9,21 @@ mod images;
 mod marks;
 mod sweep;
 
+use std::io;
+use std::io::{BufWriter, Write};
+
 // Where the random numbers begin.
 const SEED: usize = 20260716;
 
 // Prints the seed, tries all groups, and shows that each comparison can fail.
-fn main() {
-    lines::numbers(&[SEED], b"seed ");
-    lines::end();
+fn main(rt: HostRuntime) -> io::Result<()> {
+    let mut out = BufWriter::new(rt.alloc(), rt.stdout())?;
+    lines::numbers(&mut out, &[SEED], b"seed ")?;
+    lines::end(&mut out)?;
     let mut x = SEED;
     for g in 0..17 {
-        x = groups::run(g, x);
+        x = groups::run(&mut out, g, x)?;
     }
-    changes::run();
+    changes::run(&mut out)?;
+    out.flush()
 }
