@@ -4,8 +4,8 @@
  * It moves nothing, builds its free list while it marks, and works only in words that the caller lends. Every call takes
  * any content and any length, and answers 0 or the number of a refusal; none supposes that its caller looked first.
  *
- * Link with libfirmware.a: `hosts/archive` proves the code and writes it to target/native, for the processor at hand.
- * This header says what the Rattle source of crates/firmware promises; no tool compares the two.
+ * Link with libfirmware.a: `hosts/archive` proves the code and writes it to target/staticlib, for x86-64. This header says what
+ * the Rattle source of crates/firmware_c promises; no tool compares the two.
  *
  * What no proof covers, and the caller must see to:
  *   - a pointer is valid for its length, counted in words of 32 bits, and stands at a multiple of 4 bytes; with a length
