@@ -12,7 +12,7 @@ type Later = [usize; 320];
 
 // What has come: the refusal's number or 0, and the reference met; how many references were met, the most intervals at once; and how
 // many objects are put off. The keep length goes with it.
-#[derive(Drop)]
+#[derive(Clone, Copy)]
 pub(crate) struct Marking {
     keep: usize,
     pub(crate) code: usize,

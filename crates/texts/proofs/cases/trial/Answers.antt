@@ -1,0 +1,6 @@
+-- `cases::trial` is safe: an answer is no longer than the buffer.
+use Rattle.report.specs.AnswerLaws.{reports_inside}
+use Rattle.texts.proofs.cases.trial.Goals as goal
+
+pub show-requires : goal.show-requires
+show-requires g c = reports_inside _ _ c.answer-m.ensures
