@@ -8,15 +8,9 @@ mod rows;
 mod turns;
 
 use std::io;
-use std::io::{BufWriter, Read, Write};
-
-// What is read at most.
-const LONGEST: u64 = 65536;
 
 fn main(rt: HostRuntime) -> io::Result<()> {
-    let mut text = Vec::new(rt.alloc());
-    rt.stdin().take(LONGEST).read_to_end(&mut text)?;
-    let mut out = BufWriter::new(rt.alloc(), rt.stdout())?;
-    rows::all(&mut out, &text)?;
-    out.flush()
+    let mut text = [0u8; 65536];
+    let n = lines::read_full(&mut rt.stdin(), &mut text)?;
+    rows::all(&mut rt.stdout(), &text[..n])
 }

@@ -4,7 +4,7 @@
 ghost use Rattle.std.specs.Prelude.{◌<◌, ◌≤◌, IfOk, length};
 
 use std::io;
-use std::io::Write;
+use std::io::{Read, Write};
 use words::wide;
 
 // A line: the number in each place, where places are parted by a space, and where the line ends.
@@ -71,6 +71,21 @@ pub fn printed<W: Write>(out: &mut W, text: &[u8], at: usize) -> io::Result<Line
     let end = line.end;
     out.write_all(&text[at..end])?;
     Ok(line)
+}
+
+// Reads until the buffer is full or the input ends, and answers how many bytes came.
+pub fn read_full<R: Read>(from: &mut R, text: &mut [u8]) -> io::Result<usize>
+    ensures { IfOk result (λ n. n ≤ length text.new) }
+{
+    let mut count = 0;
+    while count < text.len() {
+        let more = from.read(&mut text[count..])?;
+        if more == 0 {
+            break;
+        }
+        count += more;
+    }
+    Ok(count)
 }
 
 // Prints " gave" and the numbers that came.

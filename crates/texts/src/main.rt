@@ -3,27 +3,21 @@
 
 mod cases;
 
-ghost use Rattle.std.specs.Prelude.{◌≡◌, IfOk, vec_capacity};
+ghost use Rattle.std.specs.Prelude.{◌≡◌, length};
 
-use std::alloc::{AllocError, Global};
 use std::io;
-use std::io::{BufWriter, Read, Write};
-
-// What is read at most.
-const LONGEST: u64 = 524288;
 
 // Room for all of standard input.
-fn room(alloc: Global) -> Result<Vec<u8>, AllocError>
-    ensures { IfOk result (λ input. 524288 ≡ vec_capacity input) }
+fn room() -> [u8; 524288]
+    ensures { 524288 ≡ length result }
 {
-    Vec::with_capacity(alloc, 524288)
+    [0; 524288]
 }
 
 fn main(rt: HostRuntime) -> io::Result<()> {
-    let mut input = room(rt.alloc())?;
-    rt.stdin().take(LONGEST).read_to_end(&mut input)?;
-    let mut out = BufWriter::new(rt.alloc(), rt.stdout())?;
-    cases::all(&mut out, &input)?;
-    cases::short(&mut out)?;
-    out.flush()
+    let mut input = room();
+    let n = lines::read_full(&mut rt.stdin(), &mut input)?;
+    let mut out = rt.stdout();
+    cases::all(&mut out, &input[..n])?;
+    cases::short(&mut out)
 }

@@ -10,20 +10,18 @@ mod marks;
 mod sweep;
 
 use std::io;
-use std::io::{BufWriter, Write};
 
 // Where the random numbers begin.
 const SEED: usize = 20260716;
 
 // Prints the seed, tries all groups, and shows that each comparison can fail.
 fn main(rt: HostRuntime) -> io::Result<()> {
-    let mut out = BufWriter::new(rt.alloc(), rt.stdout())?;
+    let mut out = rt.stdout();
     lines::numbers(&mut out, &[SEED], b"seed ")?;
     lines::end(&mut out)?;
     let mut x = SEED;
     for g in 0..17 {
         x = groups::run(&mut out, g, x)?;
     }
-    changes::run(&mut out)?;
-    out.flush()
+    changes::run(&mut out)
 }
