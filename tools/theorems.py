@@ -5,7 +5,7 @@ usage: python3 tools/theorems.py OLD NEW [--moved | --changed]
 
 OLD is a tree of the repository after the scripts, NEW one of today; both have crates/. A declaration of crates/*/specs or of a
 lemma file of crates/*/proofs is found again by its crate and its name. --moved prints each one that stood in specs/ and
-stands in proofs/ now, whole, by file; --changed each one whose text up to its first `=` differs, or that is gone.
+stands in proofs/ now, whole as it is in NEW, by file; --changed each one whose text up to its first `=` differs, or that is gone.
 """
 import glob
 import os
@@ -108,12 +108,11 @@ def main():
     old, new = tree(sys.argv[1]), tree(sys.argv[2])
     if "--moved" in sys.argv:
         by_file = {}
-        for k, places in old.items():
+        stood = {(k, os.path.basename(place)) for k, places in old.items() for place, d in places if "/specs/" in place}
+        for k, places in new.items():
             for place, d in places:
-                if "/specs/" in place:
-                    here = [p for p, e in new.get(k, []) if os.path.basename(p) == os.path.basename(place)]
-                    if here and "/proofs/" in here[0] and not any("/specs/" in p for p in here):
-                        by_file.setdefault(here[0], []).append(d)
+                if "/proofs/" in place and (k, os.path.basename(place)) in stood:
+                    by_file.setdefault(place, []).append(d)
         for path in sorted(by_file):
             print(f"\n`{path}`\n")
             last = None

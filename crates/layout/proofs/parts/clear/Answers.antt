@@ -21,9 +21,6 @@ loop-i-preserved c =
       length-set at.part at.i 0 ∙ at.invariant.2,
     )
 
--- SETTLED OR GONE: same-length
--- same_length c = c.before.loop.invariant.2
-
 pub returns : goal.returns
 returns c =
     let at = c.loop-i in
