@@ -30,12 +30,7 @@ use Rattle.store.proofs.AllotLaws.{Chosen, chosen, ends, front_room}
 use Rattle.store.specs.Survey.{surveys}
 use Rattle.store.specs.declared.allots.Allotted.{Allotted}
 use Rattle.store.specs.declared.surveys.Surveyed.{Surveyed}
-use Rattle.firmware.specs.Lent.{state_in}
 use Rattle.firmware.specs.Fits.{StateFits, CollectedFits, AllottedFits, FiguresFit}
-
--- A state that was lent in words.
-pub lent_fits : {state : State} (words : List ℕ) → state ≡ state_in words → Words words → StateFits state
-lent_fits words e w = rw e (record { words = w 0; keep = w 1; count = w 2 })
 
 -- The state that set-up hands out.
 sets_up_fits : (heap : List ℕ) (t : ℕ) (map list : List ℕ) → StateFits (sets_up heap t map list).answer.state

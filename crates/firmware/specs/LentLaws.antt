@@ -14,11 +14,6 @@ stored (y ∷ l) w (x ∷ buffer) inside = ap (λ (r : List ℕ). y ∷ r) (stor
 pub front_next : (l : List ℕ) (w : ℕ) (buffer : List ℕ) {before : List ℕ} → before ≡ fronted l buffer → length l < length buffer → set before (length l) w ≡ fronted (l ++ (w ∷ [])) buffer
 front_next l w buffer e inside = ap (λ (b : List ℕ). set b (length l) w) e ∙ stored l w buffer inside
 
--- Three of them.
-pub three_stored : (x y z : ℕ) (buffer : List ℕ) → 3 ≤ length buffer → set (set (set buffer 0 x) 1 y) 2 z ≡ fronted (x ∷ y ∷ z ∷ []) buffer
-three_stored x y z buffer long =
-    front_next (x ∷ y ∷ []) z buffer (front_next (x ∷ []) y buffer (front_next [] x buffer refl (omega arith)) (omega arith)) (omega arith)
-
 -- The test of state and answer as a call makes it, where n words are answered.
 abbrev pub Long : List ℕ → List ℕ → ℕ → Bool → Type 0
 Long state answer n b = leb state_room (length state) && leb n (length answer) ≡ b

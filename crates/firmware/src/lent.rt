@@ -11,10 +11,11 @@ use words::wide;
 // How many words a state has.
 pub(crate) const STATE_ROOM: usize = 3;
 
-// The state in a buffer.
+// The state in a buffer, whose numbers stand in words.
 pub(crate) fn state_in(words: &[u32]) -> State
     requires { state_room ≤ length words.now }
-    ensures { result ≡ state_in words.now }
+    ensures value { result ≡ state_in words.now }
+    ensures fits { StateFits result }
 {
     State {
         words: wide(words[0]),

@@ -10,7 +10,7 @@ use words::wide;
 pub fn at(list: &[u32], j: usize) -> Interval
     requires { 2 * j + 2 ≤ length list.now }
     ensures value { result ≡ record_at list.now j }
-    ensures start_bound { (result.start < 4294967296) × (result.size < 4294967296) }
+    ensures small { (result.start < 4294967296) × (result.size < 4294967296) }
 {
     let at = 2 * j;
     let start = wide(list[at]);

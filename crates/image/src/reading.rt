@@ -58,8 +58,8 @@ fn starts(line: &[u8], key: &[u8]) -> bool
 // The `words` line: so many words, all 0.
 fn take_words(got: SoFar, number: Number, heap: &mut [u32]) -> Next
     requires { (max_heap ≤ length heap.old) × Small got }
-    ensures by_index { (roots : List ℕ) → shows_next result roots heap.new ≡ takes_words (shows got roots heap.old) number }
-    ensures small_next { SmallNext result }
+    ensures meaning { (roots : List ℕ) → shows_next result roots heap.new ≡ takes_words (shows got roots heap.old) number }
+    ensures small { SmallNext result }
 {
     let Number::Is(n) = number else {
         return Next::Off;
@@ -81,8 +81,8 @@ fn take_words(got: SoFar, number: Number, heap: &mut [u32]) -> Next
 // The `keep` line.
 fn take_keep(got: SoFar, number: Number) -> Next
     requires { Small got }
-    ensures by_index { (roots heap : List ℕ) → shows_next result roots heap ≡ takes_keep (shows got roots heap) number }
-    ensures small_next { SmallNext result }
+    ensures meaning { (roots heap : List ℕ) → shows_next result roots heap ≡ takes_keep (shows got roots heap) number }
+    ensures small { SmallNext result }
 {
     let Number::Is(n) = number else {
         return Next::Off;
@@ -103,8 +103,8 @@ fn take_keep(got: SoFar, number: Number) -> Next
 // A `root` line.
 fn take_root(got: SoFar, number: Number, roots: &mut [u32]) -> Next
     requires { (got.lines < max_text) × (max_image_roots ≤ length roots.old) × Small got }
-    ensures by_index { (heap : List ℕ) → shows_next result roots.new heap ≡ takes_root (shows got roots.old heap) number }
-    ensures small_next { SmallNext result }
+    ensures meaning { (heap : List ℕ) → shows_next result roots.new heap ≡ takes_root (shows got roots.old heap) number }
+    ensures small { SmallNext result }
 {
     let Number::Is(root) = number else {
         return Next::Off;
@@ -126,8 +126,8 @@ fn take_root(got: SoFar, number: Number, roots: &mut [u32]) -> Next
 // A `word` line.
 fn take_word(got: SoFar, pair: Pair, heap: &mut [u32]) -> Next
     requires { (got.lines < max_text) × (max_heap ≤ length heap.old) × Small got }
-    ensures by_index { (roots : List ℕ) → shows_next result roots heap.new ≡ takes_word (shows got roots heap.old) pair }
-    ensures small_next { SmallNext result }
+    ensures meaning { (roots : List ℕ) → shows_next result roots heap.new ≡ takes_word (shows got roots heap.old) pair }
+    ensures small { SmallNext result }
 {
     let Pair::Are(address, value) = pair else {
         return Next::Off;
@@ -149,8 +149,8 @@ fn take_word(got: SoFar, pair: Pair, heap: &mut [u32]) -> Next
 // One line more: its key says what the part after the equals sign is.
 fn take(got: SoFar, line: &[u8], roots: &mut [u32], heap: &mut [u32]) -> Next
     requires { LineFits got roots.old heap.old }
-    ensures heap_after { shows_next result roots.new heap.new ≡ takes_line (shows got roots.old heap.old) line.now }
-    ensures small_next { SmallNext result }
+    ensures meaning { shows_next result roots.new heap.new ≡ takes_line (shows got roots.old heap.old) line.now }
+    ensures small { SmallNext result }
 {
     if starts(line, b"words=") {
         return take_words(got, decimals::decimal_of(&line[6..]), heap);
@@ -170,8 +170,8 @@ fn take(got: SoFar, line: &[u8], roots: &mut [u32], heap: &mut [u32]) -> Next
 // The image of a text, or the number of its first wrong line.
 pub fn read(text: &[u8], roots: &mut [u32], heap: &mut [u32]) -> ReadText
     requires { (max_image_roots ≤ length roots.old) × (max_heap ≤ length heap.old) }
-    ensures heap_after { shows_text result roots.new heap.new ≡ text_of text.now }
-    ensures small_text { SmallText result }
+    ensures meaning { shows_text result roots.new heap.new ≡ text_of text.now }
+    ensures small { SmallText result }
 {
     if MAX_TEXT < text.len() {
         return ReadText::WrongLine(0);

@@ -12,8 +12,8 @@ use freelist::records;
 
 // Takes the s words from a on off record j, which contains them. A side shorter than the keep length is dropped. The new count.
 pub fn take_off(list: &mut [u32], count: usize, keep: usize, a: usize, s: usize, j: usize) -> usize
-    requires count_in_bounds { (2 * count ≤ length list.old) × (a + s < 4294967296) × In (records count list.old) a s j }
-    requires j_in_bounds { 2 * length (cut keep a s (records count list.old) j) ≤ length list.old }
+    requires listed { (2 * count ≤ length list.old) × (a + s < 4294967296) × In (records count list.old) a s j }
+    requires room { 2 * length (cut keep a s (records count list.old) j) ≤ length list.old }
     ensures value { result ≡ length (cut keep a s (records count list.old) j) }
     ensures list_after { list.new ≡ relisted count (cut keep a s (records count list.old) j) list.old }
 {
@@ -28,8 +28,8 @@ pub fn take_off(list: &mut [u32], count: usize, keep: usize, a: usize, s: usize,
 
 // Takes the first s words of record j, as an allot does. A remainder shorter than the keep length is dropped. The new count.
 pub fn take_front(list: &mut [u32], count: usize, keep: usize, s: usize, j: usize) -> usize
-    requires count_in_bounds { (2 * count ≤ length list.old) × (1 ≤ keep) }
-    requires s_bound { ((interval_at (records count list.old) j).start + s < 4294967296) × In (records count list.old) (interval_at (records count list.old) j).start s j }
+    requires room { (2 * count ≤ length list.old) × (1 ≤ keep) }
+    requires listed { ((interval_at (records count list.old) j).start + s < 4294967296) × In (records count list.old) (interval_at (records count list.old) j).start s j }
     ensures value { result ≡ length (without_front keep s (records count list.old) j) }
     ensures list_after { list.new ≡ relisted count (without_front keep s (records count list.old) j) list.old }
 {
@@ -51,8 +51,8 @@ fn put_sides(
     next: u32,
     right: u32,
 ) -> usize
-    requires j_lt_count { (j < count) × (2 * count ≤ length list.old) }
-    requires j_in_bounds { 2 * length (sides keep left next right (records count list.old) j) ≤ length list.old }
+    requires there { (j < count) × (2 * count ≤ length list.old) }
+    requires room { 2 * length (sides keep left next right (records count list.old) j) ≤ length list.old }
     ensures value { result ≡ length (sides keep left next right (records count list.old) j) }
     ensures list_after { list.new ≡ relisted count (sides keep left next right (records count list.old) j) list.old }
 {

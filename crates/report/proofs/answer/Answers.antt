@@ -9,25 +9,25 @@ pub returns-then-out-lt-ANSWER_ROOM : goal.returns-then-out-lt-ANSWER_ROOM
 returns-then-out-lt-ANSWER_ROOM c = let t = c.args in reports_short t.text.now t.out.now (omega arith)
 
 pub slice_bounds-heap-end : goal.slice_bounds-heap-end
-slice_bounds-heap-end c = let small = found_small c.in-Right.is c.read.ensures.small_text in omega (arith, small.words_in, c.read.auto.heap)
+slice_bounds-heap-end c = let small = found_small c.in-Right.is c.read.ensures.small in omega (arith, small.words_in, c.read.auto.heap)
 
 pub slice_bounds-image_lines-end : goal.slice_bounds-image_lines-end
-slice_bounds-image_lines-end c = let small = found_small c.in-Right.is c.read.ensures.small_text in sym (length-take-le _ _ (omega (arith, small.words_in, c.read.auto.heap)))
+slice_bounds-image_lines-end c = let small = found_small c.in-Right.is c.read.ensures.small in sym (length-take-le _ _ (omega (arith, small.words_in, c.read.auto.heap)))
 
 pub slice_bounds-roots-end : goal.slice_bounds-roots-end
-slice_bounds-roots-end c = let small = found_small c.in-Right.is c.read.ensures.small_text in omega (arith, small.roots_in, c.read.auto.roots)
+slice_bounds-roots-end c = let small = found_small c.in-Right.is c.read.ensures.small in omega (arith, small.roots_in, c.read.auto.roots)
 
 pub slice_bounds-image_lines-end-in-Right : goal.slice_bounds-image_lines-end-in-Right
-slice_bounds-image_lines-end-in-Right c = let small = found_small c.in-Right.is c.read.ensures.small_text in sym (length-take-le _ _ (omega (arith, small.roots_in, c.read.auto.roots)))
+slice_bounds-image_lines-end-in-Right c = let small = found_small c.in-Right.is c.read.ensures.small in sym (length-take-le _ _ (omega (arith, small.roots_in, c.read.auto.roots)))
 
 pub returns-in-WrongLine : goal.returns-in-WrongLine
 returns-in-WrongLine c =
     let t = c.args in
     let r = c.read in
-    reports_written t.text.now t.out.now (omega arith) c.code_lines.ensures (answer_wrong t.text.now _ _ r.ensures.heap_after c.in-WrongLine.is)
+    reports_written t.text.now t.out.now (omega arith) c.code_lines.ensures (answer_wrong t.text.now _ _ r.ensures.meaning c.in-WrongLine.is)
 
 pub returns-in-Right : goal.returns-in-Right
 returns-in-Right c =
     let t = c.args in
     let r = c.read in
-    reports_written t.text.now t.out.now (omega arith) c.image_lines.ensures (answer_right t.text.now _ _ r.ensures.heap_after c.in-Right.is)
+    reports_written t.text.now t.out.now (omega arith) c.image_lines.ensures (answer_right t.text.now _ _ r.ensures.meaning c.in-Right.is)

@@ -14,13 +14,13 @@ front c = (interval_at (records c.args.count c.args.list.now) c.args.j).start
 
 -- The record is there, starts so, and has the words.
 there : (c : After-at-record) → c.args.j < c.args.count
-there c = let t = c.args in in_place t.count t.list.now (front c) t.s t.j c.requires.s_bound.1
+there c = let t = c.args in in_place t.count t.list.now (front c) t.s t.j c.requires.listed.1
 
 starts : (c : After-at-record) → front c ≡ c.at-record.result.start
 starts c = let t = c.args in ap (λ (i : Interval). i.start) (read_at t.count t.list.now t.j c.at-record.ensures.value (there c))
 
 inside : (c : After-at-record) → let t = c.args in (front c ≡ c.at-record.result.start) × (front c + t.s ≤ end c.at-record.result)
-inside c = let t = c.args in (starts c, (in_read t.count t.list.now t.j c.at-record.ensures.value (front c) t.s c.requires.s_bound.1).1)
+inside c = let t = c.args in (starts c, (in_read t.count t.list.now t.j c.at-record.ensures.value (front c) t.s c.requires.listed.1).1)
 
 -- What is worked out is left without them.
 same : (c : After-at-record) → let t = c.args in
@@ -30,20 +30,20 @@ same c = let t = c.args in front_sides t.count t.list.now t.j c.at-record.ensure
 pub at-record-requires : goal.at-record-requires
 at-record-requires c =
     let t = c.args in
-    let there = in_place t.count t.list.now _ t.s t.j c.requires.s_bound.1 in
+    let there = in_place t.count t.list.now _ t.s t.j c.requires.listed.1 in
     omega (arith, there)
 
 pub overflow_sub-right : goal.overflow_sub-right
 overflow_sub-right c = omega (arith, inside c)
 
 pub overflow_cast-next : goal.overflow_cast-next
-overflow_cast-next c = omega (arith, inside (goal.at.overflow_cast-next c).After-at-record, c.requires.s_bound.0)
+overflow_cast-next c = omega (arith, inside (goal.at.overflow_cast-next c).After-at-record, c.requires.listed.0)
 
 pub put_sides-requires : goal.put_sides-requires
 put_sides-requires c =
     let t = c.args in
     let h = there (goal.at.put_sides-requires c).After-at-record in
-    record { j_lt_count = (h, omega arith); j_in_bounds = front_fits t.keep _ _ t.count t.list.now t.j (omega arith) h (omega arith) }
+    record { there = (h, omega arith); room = front_fits t.keep _ _ t.count t.list.now t.j (omega arith) h (omega arith) }
 
 pub returns : goal.returns
 returns c =

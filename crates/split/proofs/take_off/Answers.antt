@@ -10,10 +10,10 @@ use Rattle.split.proofs.take_off.Goals.{After-at-record}
 
 -- The record is there, and contains the words.
 there : (c : After-at-record) → c.args.j < c.args.count
-there c = let t = c.args in in_place t.count t.list.now t.a t.s t.j c.requires.count_in_bounds.2
+there c = let t = c.args in in_place t.count t.list.now t.a t.s t.j c.requires.listed.2
 
 inside : (c : After-at-record) → let t = c.args in (c.at-record.result.start ≤ t.a) × (t.a + t.s ≤ end c.at-record.result)
-inside c = let t = c.args in in_read t.count t.list.now t.j c.at-record.ensures.value t.a t.s c.requires.count_in_bounds.2
+inside c = let t = c.args in in_read t.count t.list.now t.j c.at-record.ensures.value t.a t.s c.requires.listed.2
 
 -- The sides worked out are those of the cut.
 same : (c : After-at-record) → let t = c.args in let left : ℕ = t.a - c.at-record.result.start in
@@ -27,7 +27,7 @@ same c =
 pub at-record-requires : goal.at-record-requires
 at-record-requires c =
     let t = c.args in
-    let there = in_place t.count t.list.now t.a t.s t.j c.requires.count_in_bounds.2 in
+    let there = in_place t.count t.list.now t.a t.s t.j c.requires.listed.2 in
     omega (arith, there)
 
 pub overflow_sub-left : goal.overflow_sub-left
@@ -40,7 +40,7 @@ pub overflow_sub-right-2 : goal.overflow_sub-right-2
 overflow_sub-right-2 c = omega (arith, inside c)
 
 pub put_sides-requires : goal.put_sides-requires
-put_sides-requires c = record { j_lt_count = (there (goal.at.put_sides-requires c).After-at-record, omega arith); j_in_bounds = rw (same (goal.at.put_sides-requires c).After-at-record) c.requires.j_in_bounds }
+put_sides-requires c = record { there = (there (goal.at.put_sides-requires c).After-at-record, omega arith); room = rw (same (goal.at.put_sides-requires c).After-at-record) c.requires.room }
 
 pub returns : goal.returns
 returns c =

@@ -17,6 +17,6 @@ take_front-left-requires g c =
     let l = limits _ _ c.requires.0 in
     let here = fitting_in t.s (records t.count t.list.now) c.fitting.ensures c.in-At.j c.in-At.is in
     record {
-      count_in_bounds = (omega (arith, o.0), l.keeps);
-      s_bound = (omega (arith, here.high, ordered_last o.1 c.in-At.j here.there, l), here);
+      room = (omega (arith, o.0), l.keeps);
+      listed = (omega (arith, here.high, ordered_last o.1 c.in-At.j here.there, l), here);
     }

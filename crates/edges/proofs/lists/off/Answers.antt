@@ -19,6 +19,6 @@ take_off-left-requires g c =
     let l = limits _ _ c.requires.0 in
     let here = holder_in t.a t.s (records t.count t.list.now) c.holding.ensures c.in-At.j c.in-At.is in
     record {
-      count_in_bounds = (omega (arith, o.0), omega (arith, l), here);
-      j_in_bounds = omega (arith, cut_fits l.keeps (omega arith) o.1 c.in-At.j here);
+      listed = (omega (arith, o.0), omega (arith, l), here);
+      room = omega (arith, cut_fits l.keeps (omega arith) o.1 c.in-At.j here);
     }

@@ -6,7 +6,7 @@ use lib.ListN.{length}
 use Rattle.firmware.specs.Lent.{state_room}
 use Rattle.firmware.specs.Fits.{AllottedFits}
 use Rattle.firmware.specs.LentLaws.{front_next, both_long}
-use Rattle.firmware.specs.FitsLaws.{lent_fits, allot_fits}
+use Rattle.firmware.specs.FitsLaws.{allot_fits}
 use Rattle.firmware.specs.CallsLaws.{allot_short, allot_crosses}
 use Rattle.firmware.proofs.calls.hx_allot.Goals as goal
 use Rattle.firmware.proofs.calls.hx_allot.Goals.{After-allot-made, Else-not-state-answer}
@@ -19,7 +19,7 @@ long c = let t = c.args in both_long t.state.now t.answer.now 1 c.if-not-state-a
 small : (c : After-allot-made) → AllottedFits c.allot-made.result
 small c =
     let t = c.args in
-    allot_fits t.heap.now t.map.now t.list.now t.size t.references (lent_fits t.state.now c.state_in-was.ensures (λ i. (c.slice_known-1.given i).fits)) c.allot-made.ensures
+    allot_fits t.heap.now t.map.now t.list.now t.size t.references c.state_in-was.ensures.fits c.allot-made.ensures
 
 pub returns-then-not-state-answer : goal.returns-then-not-state-answer
 returns-then-not-state-answer c =
@@ -42,4 +42,4 @@ pub returns : goal.returns
 returns c =
     let t = c.args in
     let stored = front_next [] c.allot-made.result.address t.answer.now refl (long (goal.at.returns c).Else-not-state-answer).1 in
-    allot_crosses t.state.now t.heap.now t.map.now t.list.now t.size t.references t.answer.now c.if-not-state-answer.false c.state_in-was.ensures c.allot-made.ensures c.put_state.ensures stored
+    allot_crosses t.state.now t.heap.now t.map.now t.list.now t.size t.references t.answer.now c.if-not-state-answer.false c.state_in-was.ensures.value c.allot-made.ensures c.put_state.ensures stored

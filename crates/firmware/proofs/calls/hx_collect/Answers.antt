@@ -4,7 +4,7 @@ use lib.ListN.{length}
 use Rattle.firmware.specs.Lent.{state_room}
 use Rattle.firmware.specs.Fits.{CollectedFits}
 use Rattle.firmware.specs.LentLaws.{both_long}
-use Rattle.firmware.specs.FitsLaws.{lent_fits, collect_fits}
+use Rattle.firmware.specs.FitsLaws.{collect_fits}
 use Rattle.firmware.specs.CallsLaws.{collect_short, collect_crosses}
 use Rattle.firmware.proofs.calls.hx_collect.Goals as goal
 use Rattle.firmware.proofs.calls.hx_collect.Goals.{After-collect-found, Else-not-state-answer}
@@ -17,8 +17,7 @@ long c = let t = c.args in both_long t.state.now t.answer.now 5 c.if-not-state-a
 small : (c : After-collect-found) → CollectedFits c.collect-found.result
 small c =
     let t = c.args in
-    let was = lent_fits t.state.now c.state_in.ensures (λ i. (c.slice_known-1.given i).fits) in
-    collect_fits t.heap.now t.roots.now t.map.now t.stack.now t.list.now was (λ i. (c.shared_slice_known-1.given i).fits) (λ i. (c.shared_slice_known-2-1.given i).fits) c.collect-found.ensures
+    collect_fits t.heap.now t.roots.now t.map.now t.stack.now t.list.now c.state_in.ensures.fits (λ i. (c.type_inv.heap i).fits) (λ i. (c.type_inv.roots i).fits) c.collect-found.ensures
 
 pub returns-then-not-state-answer : goal.returns-then-not-state-answer
 returns-then-not-state-answer c =
@@ -37,4 +36,4 @@ put_collected-requires c = ((long (goal.at.put_collected-requires c).Else-not-st
 pub returns : goal.returns
 returns c =
     let t = c.args in
-    collect_crosses t.state.now t.heap.now t.roots.now t.map.now t.stack.now t.list.now t.answer.now c.if-not-state-answer.false c.state_in.ensures c.collect-found.ensures c.put_state.ensures c.put_collected.ensures
+    collect_crosses t.state.now t.heap.now t.roots.now t.map.now t.stack.now t.list.now t.answer.now c.if-not-state-answer.false c.state_in.ensures.value c.collect-found.ensures c.put_state.ensures c.put_collected.ensures

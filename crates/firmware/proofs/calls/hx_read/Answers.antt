@@ -28,4 +28,4 @@ pub returns : goal.returns
 returns c =
     let t = c.args in
     let stored = front_next [] c.read-got.result.value t.answer.now refl (long (goal.at.returns c).Else-not-state-answer).1 in
-    read_crosses t.state.now t.heap.now t.map.now t.address t.field t.answer.now c.if-not-state-answer.false c.state_in-was.ensures c.read-got.ensures stored
+    read_crosses t.state.now t.heap.now t.map.now t.address t.field t.answer.now c.if-not-state-answer.false c.state_in-was.ensures.value c.read-got.ensures stored

@@ -16,4 +16,4 @@ put_figures-requires c =
     ((both_long t.state.now t.answer.now 3 c.if-not-state-answer.false).1, survey_fits c.state_in.result t.list.now c.survey-seen.ensures)
 
 pub returns : goal.returns
-returns c = let t = c.args in survey_crosses t.state.now t.list.now t.answer.now c.if-not-state-answer.false c.state_in.ensures c.survey-seen.ensures c.put_figures.ensures
+returns c = let t = c.args in survey_crosses t.state.now t.list.now t.answer.now c.if-not-state-answer.false c.state_in.ensures.value c.survey-seen.ensures c.put_figures.ensures

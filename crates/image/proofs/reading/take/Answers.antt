@@ -17,7 +17,7 @@ returns-then-starts c =
     let t = c.args in
     let w = c.take_words.ensures in
     let test = sym c.starts.ensures ∙ c.if-starts.true in
-    record { heap_after = w.by_index t.roots.now ∙ rw (c.decimal_of.ensures, part_behind t.line.now 6) (line_words _ t.line.now test); small_next = w.small_next }
+    record { meaning = w.meaning t.roots.now ∙ rw (c.decimal_of.ensures, part_behind t.line.now 6) (line_words _ t.line.now test); small = w.small }
 
 pub slice_bounds-decimal_of-count-then-starts-2 : goal.slice_bounds-decimal_of-count-then-starts-2
 slice_bounds-decimal_of-count-then-starts-2 c = starts_long _ _ (sym c.starts-2.ensures ∙ c.if-starts-2.true)
@@ -32,7 +32,7 @@ returns-then-starts-2 c =
     let w = c.take_keep.ensures in
     let words = sym c.starts.ensures ∙ c.if-starts.false in
     let test = sym c.starts-2.ensures ∙ c.if-starts-2.true in
-    record { heap_after = w.by_index t.roots.now t.heap.now ∙ rw (c.decimal_of-then-starts-2.ensures, part_behind t.line.now 5) (line_keep _ t.line.now words test); small_next = w.small_next }
+    record { meaning = w.meaning t.roots.now t.heap.now ∙ rw (c.decimal_of-then-starts-2.ensures, part_behind t.line.now 5) (line_keep _ t.line.now words test); small = w.small }
 
 pub slice_bounds-decimal_of-count-then-starts-3 : goal.slice_bounds-decimal_of-count-then-starts-3
 slice_bounds-decimal_of-count-then-starts-3 c = starts_long _ _ (sym c.starts-3.ensures ∙ c.if-starts-3.true)
@@ -48,7 +48,7 @@ returns-then-starts-3 c =
     let words = sym c.starts.ensures ∙ c.if-starts.false in
     let keep = sym c.starts-2.ensures ∙ c.if-starts-2.false in
     let test = sym c.starts-3.ensures ∙ c.if-starts-3.true in
-    record { heap_after = w.by_index t.heap.now ∙ rw (c.decimal_of-then-starts-3.ensures, part_behind t.line.now 5) (line_root _ t.line.now words keep test); small_next = w.small_next }
+    record { meaning = w.meaning t.heap.now ∙ rw (c.decimal_of-then-starts-3.ensures, part_behind t.line.now 5) (line_root _ t.line.now words keep test); small = w.small }
 
 pub slice_bounds-pair_of-count : goal.slice_bounds-pair_of-count
 slice_bounds-pair_of-count c = starts_long _ _ (sym c.starts-4.ensures ∙ c.if-starts-4.true)
@@ -65,7 +65,7 @@ returns-then-starts-4 c =
     let keep = sym c.starts-2.ensures ∙ c.if-starts-2.false in
     let root = sym c.starts-3.ensures ∙ c.if-starts-3.false in
     let test = sym c.starts-4.ensures ∙ c.if-starts-4.true in
-    record { heap_after = w.by_index t.roots.now ∙ rw (c.pair_of.ensures, part_behind t.line.now 5) (line_word _ t.line.now words keep root test); small_next = w.small_next }
+    record { meaning = w.meaning t.roots.now ∙ rw (c.pair_of.ensures, part_behind t.line.now 5) (line_word _ t.line.now words keep root test); small = w.small }
 
 pub returns : goal.returns
 unfolding ascii
@@ -73,4 +73,4 @@ returns c =
     let words = sym c.starts.ensures ∙ c.if-starts.false in
     let keep = sym c.starts-2.ensures ∙ c.if-starts-2.false in
     let root = sym c.starts-3.ensures ∙ c.if-starts-3.false in
-    record { heap_after = line_other _ _ words keep root (sym c.starts-4.ensures ∙ c.if-starts-4.false); small_next = tt }
+    record { meaning = line_other _ _ words keep root (sym c.starts-4.ensures ∙ c.if-starts-4.false); small = tt }

@@ -36,7 +36,7 @@ returns-in_default c =
 pub take_off-n-requires : goal.take_off-n-requires
 take_off-n-requires c =
     let able = takeable c.requires (known (goal.at.take_off-n-requires c).After-at-header) c.holding.ensures c.in-At.is in
-    record { count_in_bounds = able.0; j_in_bounds = able.1 }
+    record { listed = able.0; room = able.1 }
 
 pub note-requires : goal.note-requires
 note-requires c = noting c.requires (known (goal.at.note-requires c).After-at-header) c.holding.ensures c.in-At.is

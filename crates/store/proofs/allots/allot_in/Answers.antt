@@ -27,7 +27,7 @@ at-record-requires c = record_asks (is-chosen (goal.at.at-record-requires c).In-
 pub take_front-left-requires : goal.take_front-left-requires
 take_front-left-requires c =
     let asks = front_asks (is-chosen (goal.at.take_front-left-requires c).In-At) in
-    record { count_in_bounds = asks.0; s_bound = asks.1 }
+    record { room = asks.0; listed = asks.1 }
 
 pub lay-requires : goal.lay-requires
 lay-requires c = lay_asks (is-chosen (goal.at.lay-requires c).In-At) c.at-record.ensures.value
