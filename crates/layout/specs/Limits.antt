@@ -1,8 +1,10 @@
 -- Limits, and how many words of each buffer a heap needs.
-use Rattle.std.specs.Prelude.{ℕ, ◌+◌, ◌-◌, ◌*◌, ◌/◌, Bool, ◌&&◌, List, length, leb, eqb}
+use Rattle.std.specs.Prelude.{ℕ, ◌+◌, ◌-◌, ◌*◌, ◌/◌, Bool, ◌&&◌, List, length, leb, eqb, Result, Ok, Err}
 use Rattle.layout.specs.Refusal.{unless}
 use Rattle.layout.specs.declared.Rooms.{Rooms}
 use Rattle.layout.specs.declared.State.{State}
+use Rattle.layout.specs.declared.refusal.Refusal.{Refusal}
+use Rattle.layout.specs.declared.refusal.Refusal.TheVariants.{Limits}
 
 -- The most words that a heap has.
 abbrev pub max_words : ℕ
@@ -45,3 +47,11 @@ unfoldable pub rooms_of : ℕ → ℕ → Rooms
 rooms_of h t =
     unless (within h t) (record { map = 0; stack = 0; list = 0 })
     (record { map = map_words h; stack = stack_words h t; list = list_words h t })
+
+-- What a heap needs, where it is within the limits.
+unfoldable pub needed : ℕ → ℕ → Result Rooms Refusal
+needed h t = unless (within h t) (Err Limits) (Ok (rooms_of h t))
+
+-- What the heap needs that is lent with a state, where the state suits it.
+unfoldable pub fitted : State → List ℕ → Result Rooms Refusal
+fitted state heap = unless (suits state heap) (Err Limits) (Ok (rooms_of state.words state.keep))

@@ -1,13 +1,16 @@
 -- Laws of the limits and of the room figures.
-use Rattle.std.specs.Prelude.{ℕ, ◌-◌, ◌*◌, ◌/◌, ◌≤◌, ◌<◌, ◌≡◌, ◌≢◌, Bool, ◌&&◌, List, length, leb, eqb}
+use Rattle.std.specs.Prelude.{ℕ, ◌-◌, ◌*◌, ◌/◌, ◌≤◌, ◌<◌, ◌≡◌, ◌≢◌, Bool, ◌&&◌, List, length, leb, eqb, Result, Ok, Err}
 use Rattle.std.proofs.Math.Path.{refl}
-use Rattle.std.proofs.Common.{sym, ◌∙◌, div-le_self, arith}
+use Rattle.std.proofs.Common.{sym, ap, ◌∙◌, div-le_self, arith}
+use Rattle.std.specs.Result.{result_unwrap_or}
 use Rattle.std.proofs.Math.Bool.{true, false, and-eq-true_iff}
 use Rattle.std.proofs.Math.Dec.{ltb}
 use borrow.Author.Tests.{leb-true, ltb-true, eqb-true, lt-ltb, le-ltb}
-use Rattle.layout.specs.Limits.{max_words, max_keep, within, suits, map_words, stack_words, list_room, list_words, rooms_of}
+use Rattle.layout.specs.Limits.{max_words, max_keep, within, suits, map_words, stack_words, list_room, list_words, rooms_of, needed, fitted}
 use Rattle.layout.specs.declared.Rooms.{Rooms}
 use Rattle.layout.specs.declared.State.{State}
+use Rattle.layout.specs.declared.refusal.Refusal.{Refusal}
+use Rattle.layout.specs.declared.refusal.Refusal.TheVariants.{Limits as OutOfLimits}
 
 -- What the limits say of a heap of h words and a keep length of t.
 pub record Limits (h t : ℕ) : Type 0 where
@@ -133,3 +136,43 @@ bit_inside h a l = omega arith
 pub bits_enough : (h n : ℕ) → map_words h ≤ n → h ≤ 32 * n
 unfolding map_words
 bits_enough h n l = omega arith
+
+-- The figures handed out within the limits are the room figures, and the map's is not 0.
+pub needed_ok : (h t : ℕ) {rooms : Rooms} → Ok rooms ≡ needed h t → (rooms ≡ rooms_of h t) × (rooms.map ≢ 0)
+unfolding needed map_words
+needed_ok h t {rooms} e = go (within h t) refl
+  where
+    go : (ok : Bool) → within h t ≡ ok → (rooms ≡ rooms_of h t) × (rooms.map ≢ 0)
+    go true i =
+        let told : needed h t ≡ Ok (rooms_of h t) = rw i refl in
+        let same : rooms ≡ rooms_of h t = ap (λ (x : Result Rooms Refusal). result_unwrap_or x rooms) (e ∙ told) in
+        (same, λ none. omega (arith, limits h t i, ap (λ (x : Rooms). x.map) (same ∙ rooms_in h t i)))
+    go false i = let never : Ok rooms ≡ Err OutOfLimits = e ∙ rw i refl in absurd cc
+
+-- The refusal is that of the limits, given only out of them.
+pub needed_err : (h t : ℕ) {refusal : Refusal} → Err refusal ≡ needed h t → (refusal ≡ OutOfLimits) × (within h t ≡ false)
+unfolding needed
+needed_err h t {refusal} e = go (within h t) refl
+  where
+    go : (ok : Bool) → within h t ≡ ok → (refusal ≡ OutOfLimits) × (within h t ≡ false)
+    go true i = let never : Err refusal ≡ Ok (rooms_of h t) = e ∙ rw i refl in absurd cc
+    go false i = let told : needed h t ≡ Err OutOfLimits = rw i refl in let same = e ∙ told in (cc, i)
+
+module _ (state : State) (heap : List ℕ) where
+  -- The figures handed out for a state and its heap are the room figures, and the state suits the heap.
+  pub fitted_ok : {rooms : Rooms} → Ok rooms ≡ fitted state heap → (rooms ≡ rooms_of state.words state.keep) × (suits state heap ≡ true)
+  unfolding fitted
+  fitted_ok {rooms} e = go (suits state heap) refl
+    where
+      go : (ok : Bool) → suits state heap ≡ ok → (rooms ≡ rooms_of state.words state.keep) × (suits state heap ≡ true)
+      go true i = let told : fitted state heap ≡ Ok (rooms_of state.words state.keep) = rw i refl in (ap (λ (x : Result Rooms Refusal). result_unwrap_or x rooms) (e ∙ told), i)
+      go false i = let never : Ok rooms ≡ Err OutOfLimits = e ∙ rw i refl in absurd cc
+
+  -- The refusal is that of the limits, given only where the state does not suit the heap.
+  pub fitted_err : {refusal : Refusal} → Err refusal ≡ fitted state heap → (refusal ≡ OutOfLimits) × (suits state heap ≡ false)
+  unfolding fitted
+  fitted_err {refusal} e = go (suits state heap) refl
+    where
+      go : (ok : Bool) → suits state heap ≡ ok → (refusal ≡ OutOfLimits) × (suits state heap ≡ false)
+      go true i = let never : Err refusal ≡ Ok (rooms_of state.words state.keep) = e ∙ rw i refl in absurd cc
+      go false i = let told : fitted state heap ≡ Err OutOfLimits = rw i refl in let same = e ∙ told in (cc, i)

@@ -2,11 +2,14 @@
 #![tactic(auto)]
 
 pub mod parts;
+mod refusal;
 
 ghost use Rattle.std.specs.Prelude.{◌≡◌, true, length};
 ghost use Rattle.layout.specs.Intervals.{shown};
-ghost use Rattle.layout.specs.Limits.{within, list_words, rooms_of};
-ghost use Rattle.layout.specs.SetUp.{prepared, first_list, set_up_refused, sets_up};
+ghost use Rattle.layout.specs.Limits.{within, list_words, rooms_of, needed, fitted};
+ghost use Rattle.layout.specs.SetUp.{prepared, first_list, set_up_told, sets_up};
+
+pub use refusal::Refusal;
 
 // How many words of map, stack and list a heap needs.
 #[derive(Clone, Copy)]
@@ -18,20 +21,28 @@ pub struct Rooms {
 
 impl Rooms {
     // The rooms for a heap of so many words with such a keep length; all are 0 out of the limits, the map's only then.
+    // (Zeros in place of an `Err`, since what C asks for is numbers, with this very meaning.)
     pub fn of(words: usize, keep: usize) -> Rooms
         ensures { result ≡ rooms_of words keep }
     {
+        Rooms::needed(words, keep).unwrap_or(Rooms {
+            map: 0,
+            stack: 0,
+            list: 0,
+        })
+    }
+
+    // The rooms for a heap within the limits.
+    pub fn needed(words: usize, keep: usize) -> Result<Rooms, Refusal>
+        ensures { result ≡ needed words keep }
+    {
         if !((1 <= words) & (words <= State::MAX_WORDS) & (1 <= keep) & (keep <= State::MAX_KEEP)) {
-            return Rooms {
-                map: 0,
-                stack: 0,
-                list: 0,
-            };
+            return Err(Refusal::Limits);
         }
         let map = (words + 31) / 32;
         let stack = (words - 1) / keep;
         let list = 2 * stack;
-        Rooms { map, stack, list }
+        Ok(Rooms { map, stack, list })
     }
 }
 
@@ -50,13 +61,6 @@ pub struct State {
     pub count: usize,
 }
 
-// What set-up answers: the refusal's number or 0, and the state.
-#[derive(Clone, Copy)]
-pub struct SetUp {
-    pub code: u32,
-    pub state: State,
-}
-
 impl State {
     // The most words that a heap has.
     pub const MAX_WORDS: usize = 65536;
@@ -65,42 +69,39 @@ impl State {
     pub const MAX_KEEP: usize = 65535;
 
     // Sets a heap up with no object on it: clears map and list, and lists all words but word 0.
-    pub fn set_up(heap: &[u32], keep: usize, map: &mut [u32], list: &mut [u32]) -> SetUp
-        ensures { prepared result map.new list.new ≡ sets_up heap.now keep map.old list.old }
+    pub fn set_up(
+        heap: &[u32],
+        keep: usize,
+        map: &mut [u32],
+        list: &mut [u32],
+    ) -> Result<State, Refusal>
+        ensures { prepared (set_up_told result) map.new list.new ≡ sets_up heap.now keep map.old list.old }
     {
         let words = heap.len();
-        let rooms = Rooms::of(words, keep);
+        let rooms = Rooms::needed(words, keep)?;
         let m = rooms.map;
         let n = rooms.list;
-        if m == 0 {
-            return refused(1);
-        }
         if map.len() < m {
-            return refused(2);
+            return Err(Refusal::Room);
         }
         if list.len() < n {
-            return refused(2);
+            return Err(Refusal::Room);
         }
         parts::clear(&mut map[..m]);
         let count = first_list(words, keep, &mut list[..n]);
-        SetUp {
-            code: 0,
-            state: State { words, keep, count },
-        }
+        Ok(State { words, keep, count })
     }
-}
 
-// A refusal of set-up: its number and a state of zeros.
-fn refused(code: u32) -> SetUp
-    ensures { result ≡ set_up_refused code }
-{
-    SetUp {
-        code,
-        state: State {
-            words: 0,
-            keep: 0,
-            count: 0,
-        },
+    // The rooms for the heap that is lent with the state, if it has the state's words.
+    pub fn rooms(self, heap: &[u32]) -> Result<Rooms, Refusal>
+        ensures { result ≡ fitted self heap.now }
+    {
+        let rooms = Rooms::needed(self.words, self.keep)?;
+        if heap.len() == self.words {
+            Ok(rooms)
+        } else {
+            Err(Refusal::Limits)
+        }
     }
 }
 

@@ -5,7 +5,5 @@ ghost use Rattle.std.specs.Prelude.{◌≡◌, length, replicate};
 pub fn clear(part: &mut [u32])
     ensures { part.new ≡ replicate (length part.old) 0 }
 {
-    for i in 0..part.len() {
-        part[i] = 0;
-    }
+    part.fill(0);
 }

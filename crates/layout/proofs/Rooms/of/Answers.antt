@@ -1,33 +1,8 @@
--- `Rooms::of`: within the limits every sum, quotient and product is small.
-use Prim.Native.Nat.{◌-◌}
-use mathlib.Core.Path.{sym}
-use native.Mathlib.Nat.{div-le_self}
-use native.Mathlib.Omega.{arith}
-use Rattle.layout.specs.Limits.{within, map_words, stack_words, list_room, list_words}
-use Rattle.layout.specs.LimitsLaws.{Limits, limits, rooms_in, rooms_out}
+-- `Rooms::of`: the figures within the limits, and zeros out of them.
+use Rattle.std.proofs.Common.{rules}
+use Rattle.layout.specs.Limits.{rooms_of, needed}
 use Rattle.layout.proofs.Rooms.of.Goals as goal
-use Rattle.layout.proofs.Rooms.of.Goals.{Else-not-words-keep}
-
-pub returns-then-not-words-keep : goal.returns-then-not-words-keep
-unfolding within
-returns-then-not-words-keep c = sym (rooms_out _ _ c.if-not-words-keep.true)
-
-inside : (c : Else-not-words-keep) → Limits c.args.words c.args.keep
-unfolding within
-inside c = limits _ _ c.if-not-words-keep.false
-
-pub overflow_add-map : goal.overflow_add-map
-overflow_add-map c = omega (arith, inside c)
-
-pub overflow_sub-stack : goal.overflow_sub-stack
-overflow_sub-stack c = (inside c).some
-
-pub nonzero_div-stack : goal.nonzero_div-stack
-nonzero_div-stack c = (inside c).keeps
-
-pub overflow_mul-list : goal.overflow_mul-list
-overflow_mul-list c = omega (arith, inside c, div-le_self (c.args.words - 1) c.args.keep)
 
 pub returns : goal.returns
-unfolding within map_words stack_words list_room list_words
-returns c = sym (rooms_in _ _ c.if-not-words-keep.false)
+unfolding needed rooms_of
+returns c = search rules
