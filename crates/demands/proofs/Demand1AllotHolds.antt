@@ -1,6 +1,6 @@
 -- Demand 1 holds of allot.
 use Prim.Native.Nat.{ℕ}
-use Rattle.std.specs.Prelude.{◌≡◌, Bool, ◌&&◌, List, [], ◌∷◌, take, leb, eqb}
+use Rattle.std.specs.Prelude.{◌≡◌, Bool, ◌&&◌, List, [], ◌∷◌, take, leb, eqb, Option, Some, None}
 use Rattle.std.proofs.Math.Path.{refl, ap}
 use Rattle.std.proofs.Common.{◌∙◌, eqb-true}
 use mathlib.Core.List.Memᴰ
@@ -15,8 +15,6 @@ use Rattle.layout.specs.declared.State.{State}
 use Rattle.runs.specs.Lists.{interval_at, without_front}
 use Rattle.freelist.specs.Records.{records, valid_list}
 use Rattle.freelist.specs.Search.{fitting}
-use Rattle.freelist.specs.declared.search.Found.{Found}
-use Rattle.freelist.specs.declared.search.Found.TheVariants.{At, Nothing}
 use Rattle.split.specs.RelistedLaws.{length-relisted}
 use Rattle.store.specs.Allot.{Allotment, allotment, allot_refused, askable, asked_code, placed, allots_in, allots, Parts}
 use Rattle.store.proofs.AllotLaws.{joined, Chosen, chosen, ends, front_room}
@@ -51,10 +49,10 @@ module _ (state : State) (heap map list : List ℕ) (s p : ℕ) where
       (success refl))
 
   -- Where no interval was chosen it is 8.
-  placed_refuses : (f : Found) → Refuses code_of (refuse state heap map list) (8 ∷ []) (placed state heap map list s p f)
+  placed_refuses : (f : Option ℕ) → Refuses code_of (refuse state heap map list) (8 ∷ []) (placed state heap map list s p f)
   unfolding placed
-  placed_refuses Nothing = λ some. refusal (λ n. refl) (Memᴰ.head refl)
-  placed_refuses (At j) = success refl
+  placed_refuses None = λ some. refusal (λ n. refl) (Memᴰ.head refl)
+  placed_refuses (Some j) = success refl
 
   -- So it is one of the three, or 0.
   parts_refuse : Refuses code_of (refuse state heap map list) (3 ∷ 7 ∷ 8 ∷ []) (allots_in state heap map list s p)
@@ -66,7 +64,7 @@ module _ (state : State) (heap map list : List ℕ) (s p : ℕ) where
   Long r = (length r.heap ≡ length heap) × (length r.map ≡ length map) × (length r.list ≡ length list)
 
   -- They have them where an interval was chosen.
-  chosen_long : {j : ℕ} → Chosen state heap map list s p j → Long (placed state heap map list s p (At j))
+  chosen_long : {j : ℕ} → Chosen state heap map list s p j → Long (placed state heap map list s p (Some j))
   unfolding placed
   chosen_long {j} x =
       let n : ℕ = state.count in
@@ -75,10 +73,10 @@ module _ (state : State) (heap map list : List ℕ) (s p : ℕ) where
       (length-laid heap a s p x.ready.fewer (ends x), length-set_bit map a, length-relisted n (without_front k s l j) list x.ready.room (front_room x))
 
   -- They have them whatever was found.
-  placed_long : Parts state heap map list → asked ≡ 0 → (f : Found) → f ≡ fitting s l → Long (placed state heap map list s p f)
+  placed_long : Parts state heap map list → asked ≡ 0 → (f : Option ℕ) → f ≡ fitting s l → Long (placed state heap map list s p f)
   unfolding placed
-  placed_long z none Nothing e = (refl, refl, refl)
-  placed_long z none (At j) e = chosen_long (chosen z s p refl none e refl)
+  placed_long z none None e = (refl, refl, refl)
+  placed_long z none (Some j) e = chosen_long (chosen z s p refl none e refl)
 
   -- They have them in every case.
   pub parts_long : Parts state heap map list → Long (allots_in state heap map list s p)

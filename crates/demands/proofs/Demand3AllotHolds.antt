@@ -1,5 +1,5 @@
 -- Demand 3: an allot in a world that stands.
-use Rattle.std.specs.Prelude.{ℕ, ◌+◌, ◌-◌, ◌*◌, ◌≤◌, ◌<◌, ◌≡◌, ◌≢◌, ◌↔◌, ◌⊎◌, Bool, true, false, ◌&&◌, get_or, take, eqb}
+use Rattle.std.specs.Prelude.{ℕ, ◌+◌, ◌-◌, ◌*◌, ◌≤◌, ◌<◌, ◌≡◌, ◌≢◌, ◌↔◌, ◌⊎◌, Bool, true, false, ◌&&◌, get_or, take, eqb, Option, Some, None}
 use Rattle.std.proofs.Math.Path.{refl}
 use Rattle.std.proofs.Common.{sym, inl, inr, arith, take-append-drop, length-take-le, eqb-true, eq-eqb, ne_eqb}
 use mathlib.Core.List.Memᴰ
@@ -12,8 +12,6 @@ use Rattle.runs.proofs.LongestLaws.{clash}
 use Rattle.freelist.specs.Records.{records}
 use Rattle.freelist.specs.Search.{fitting}
 use Rattle.freelist.specs.SearchLaws.{fitting_none}
-use Rattle.freelist.specs.declared.search.Found.{Found}
-use Rattle.freelist.specs.declared.search.Found.TheVariants.{At, Nothing}
 use Rattle.split.specs.RelistedLaws.{relisted_shown}
 use Rattle.store.specs.Allot.{Allotment, askable, asked_code, placed, allots_in, Parts}
 use Rattle.store.proofs.AllotLaws.{joined, allot_within, asked_numbers, asked_none, allot_refused_lem, allot_full, Chosen, chosen}
@@ -65,7 +63,7 @@ module _ {w : World} (g : Stands w) where
     picked x = record { front = rw (part_read g) at x.front; least = x.ready.least; small = x.ready.small; fewer = x.ready.fewer }
 
     -- And there it is placed.
-    placed_given : {j : ℕ} (x : Picked w s p j) → joined w.state w.map w.list (placed w.state w.heap (take m w.map) (take n w.list) s p (At j)) ≡ given j x
+    placed_given : {j : ℕ} (x : Picked w s p j) → joined w.state w.map w.list (placed w.state w.heap (take m w.map) (take n w.list) s p (Some j)) ≡ given j x
     unfolding placed
     placed_given {j} x =
         let fits : 2 * length (new_free g x) ≤ n = rw (sized g) at (new_fits g x) in
@@ -82,11 +80,11 @@ module _ {w : World} (g : Stands w) where
         refused : (code : ℕ) → refuse w.state w.heap (take m w.map) (take n w.list) code ≡ inner → P (refuse w.state w.heap w.map w.list code) → P (joined w.state w.map w.list inner)
         refused code e q = rw (← e, take-append-drop m w.map, take-append-drop n w.list) q
 
-        found : asked_code_lem ≡ 0 → askable w.state.keep s p ≡ true → (f : Found) → f ≡ fitting s (records w.state.count (take n w.list)) → P (joined w.state w.map w.list inner)
-        found none e Nothing q =
+        found : asked_code_lem ≡ 0 → askable w.state.keep s p ≡ true → (f : Option ℕ) → f ≡ fitting s (records w.state.count (take n w.list)) → P (joined w.state w.map w.list inner)
+        found none e None q =
             let short = rw (part_read g) at (fitting_none s (records w.state.count (take n w.list)) q refl) in
             refused 8 (allot_full parts s p refl none q refl) (eight e (λ i m. rw m.2 at (short m.0 m.1)))
-        found none e (At j) q =
+        found none e (Some j) q =
             let x = chosen parts s p refl none q refl in
             rw (x.left, placed_given (picked x)) (new e j (picked x))
 

@@ -1,6 +1,6 @@
 -- Every number that a call answers with stands in a word, if those that it was lent do.
 use Prim.Native.Nat.{ℕ, ◌-◌, ◌≤◌}
-use Rattle.std.specs.Prelude.{◌≡◌, ◌&&◌, List, length, take, leb, eqb}
+use Rattle.std.specs.Prelude.{◌≡◌, ◌&&◌, List, length, take, leb, eqb, Option, Some, None}
 use Rattle.std.proofs.Math.Path.{refl}
 use Rattle.std.proofs.Common.{sym, subst, arith, length-take-le, lit<, leb-true, eqb-true}
 use Rattle.std.proofs.Math.Bool.{and-eq-true_iff}
@@ -21,8 +21,6 @@ use Rattle.freelist.specs.FiguresLaws.{largest_listed}
 use Rattle.freelist.specs.Records.{records, valid_list}
 use Rattle.freelist.specs.RecordsLaws.{valid_ordered}
 use Rattle.freelist.specs.Search.{fitting}
-use Rattle.freelist.specs.declared.search.Found.{Found}
-use Rattle.freelist.specs.declared.search.Found.TheVariants.{At, Nothing}
 use Rattle.collector.specs.Collect.{Left, left, collect_refused, settled, settles, collects_in, collects}
 use Rattle.collector.specs.declared.Collected.{Collected}
 use Rattle.store.specs.Allot.{Allotment, allotment, allot_refused, asked_code, placed, allots_in, allots, Parts}
@@ -88,7 +86,7 @@ pub collect_fits : {state : State} (heap roots map stack list : List ℕ) → St
 collect_fits {state} heap roots map stack list s heaped rooted e = subst (λ (x : Left). CollectedFits x.answer) (sym e) (collects_fits state heap roots map stack list s heaped rooted)
 
 -- What an allot answers where an interval was chosen.
-chosen_fits : {state : State} {heap map list : List ℕ} {s p j : ℕ} → Parts state heap map list → Chosen state heap map list s p j → AllottedFits (placed state heap map list s p (At j)).answer
+chosen_fits : {state : State} {heap map list : List ℕ} {s p j : ℕ} → Parts state heap map list → Chosen state heap map list s p j → AllottedFits (placed state heap map list s p (Some j)).answer
 unfolding placed
 chosen_fits {state} z x =
     let l : Limits state.words state.keep = x.ready.limits in
@@ -104,10 +102,10 @@ none_fits s = record { address = lit< tt; state = s }
 -- What an allot answers in the needed parts.
 module _ (state : State) (fits : StateFits state) (heap map list : List ℕ) (s p : ℕ) where
   -- By what was found.
-  placed_fits : Parts state heap map list → asked_code state.words state.keep state.count list s p ≡ 0 → (f : Found) → f ≡ fitting s (records state.count list) → AllottedFits (placed state heap map list s p f).answer
+  placed_fits : Parts state heap map list → asked_code state.words state.keep state.count list s p ≡ 0 → (f : Option ℕ) → f ≡ fitting s (records state.count list) → AllottedFits (placed state heap map list s p f).answer
   unfolding placed
-  placed_fits z none Nothing e = none_fits fits
-  placed_fits z none (At j) e = chosen_fits z (chosen z s p refl none e refl)
+  placed_fits z none None e = none_fits fits
+  placed_fits z none (Some j) e = chosen_fits z (chosen z s p refl none e refl)
 
   -- In every case.
   parts_fits : Parts state heap map list → AllottedFits (allots_in state heap map list s p).answer

@@ -1,6 +1,6 @@
 -- Laws of the searches.
 use Prim.Native.Nat.{ℕ, zero, suc, ◌+◌, ◌≤◌, ◌<◌}
-use Rattle.std.specs.Prelude.{◌≡◌, refl, Bool, true, false, cond, List, [], ◌∷◌, length, drop}
+use Rattle.std.specs.Prelude.{◌≡◌, refl, Bool, true, false, cond, List, [], ◌∷◌, length, drop, Option, Some, None}
 use Rattle.std.proofs.Common.{sym, ap, subst, ◌∙◌}
 use Rattle.std.proofs.Math.Bool.{and-eq-true_iff, and-false}
 use native.Mathlib.Omega.{arith}
@@ -13,17 +13,15 @@ use Rattle.runs.proofs.OrderLaws.{ordered_apart}
 use Rattle.freelist.specs.Records.{record_at, records}
 use Rattle.freelist.specs.RecordsLaws.{length-records, record_at_lem, records_next, records_end}
 use Rattle.freelist.specs.Search.{first_from, fits, fitting, contains, holder, Sorted}
-use Rattle.freelist.specs.declared.search.Found.{Found}
-use Rattle.freelist.specs.declared.search.Found.TheVariants.{At, Nothing}
 
 -- An ordered list is sorted.
 pub ordered_sorted : {k g e lo : ℕ} {l : List Interval} → 1 ≤ g → Ordered k g e lo l → Sorted l
 ordered_sorted some o i j p q = omega (arith, ordered_apart o i j p q)
 
 -- What a search for a test tells of the list, where its first interval has the place j.
-abbrev Tells : (Interval → Bool) → ℕ → List Interval → Found → Type 0
-Tells test j l (At p) = (n : ℕ) × (j + n ≡ p) × (n < length l) × (test (interval_at l n) ≡ true) × ((m : ℕ) → m < n → test (interval_at l m) ≡ false)
-Tells test j l Nothing = (m : ℕ) → m < length l → test (interval_at l m) ≡ false
+abbrev Tells : (Interval → Bool) → ℕ → List Interval → Option ℕ → Type 0
+Tells test j l (Some p) = (n : ℕ) × (j + n ≡ p) × (n < length l) × (test (interval_at l n) ≡ true) × ((m : ℕ) → m < n → test (interval_at l m) ≡ false)
+Tells test j l None = (m : ℕ) → m < length l → test (interval_at l m) ≡ false
 
 -- The interval found passes and none before it does; where none is found, none passes.
 first_tells : (test : Interval → Bool) (j : ℕ) (l : List Interval) → Tells test j l (first_from test j l)
@@ -31,42 +29,42 @@ unfolding first_from
 first_tells test j [] = λ m h. absurd (omega arith)
 first_tells test j (i ∷ l) = go (test i) refl (first_tells test (suc j) l)
   where
-    later : (f : Found) → test i ≡ false → Tells test (suc j) l f → Tells test j (i ∷ l) f
-    later (At p) fails (n, e, h, q, b) = (suc n, omega arith, omega arith, q, before)
+    later : (f : Option ℕ) → test i ≡ false → Tells test (suc j) l f → Tells test j (i ∷ l) f
+    later (Some p) fails (n, e, h, q, b) = (suc n, omega arith, omega arith, q, before)
       where
         before : (m : ℕ) → m < suc n → test (interval_at (i ∷ l) m) ≡ false
         before zero o = fails
         before (suc m) o = b m (omega arith)
-    later Nothing fails b = every
+    later None fails b = every
       where
         every : (m : ℕ) → m < suc (length l) → test (interval_at (i ∷ l) m) ≡ false
         every zero o = fails
         every (suc m) o = b m (omega arith)
 
-    go : (t : Bool) → test i ≡ t → Tells test (suc j) l (first_from test (suc j) l) → Tells test j (i ∷ l) (cond t (At j) (first_from test (suc j) l))
+    go : (t : Bool) → test i ≡ t → Tells test (suc j) l (first_from test (suc j) l) → Tells test j (i ∷ l) (cond t (Some j) (first_from test (suc j) l))
     go true e ih = (0, omega arith, omega arith, e, λ m o. absurd (omega arith))
     go false e ih = later (first_from test (suc j) l) e ih
 
 -- Only one answer tells so.
-tells_first : (test : Interval → Bool) (j : ℕ) (l : List Interval) (f : Found) → Tells test j l f → first_from test j l ≡ f
+tells_first : (test : Interval → Bool) (j : ℕ) (l : List Interval) (f : Option ℕ) → Tells test j l f → first_from test j l ≡ f
 tells_first test j l f t = same (first_from test j l) f (first_tells test j l) t
   where
     below : (m n : ℕ) → test (interval_at l m) ≡ true → ((i : ℕ) → i < n → test (interval_at l i) ≡ false) → n ≤ m
     below m n p q = elim (dec_le n m) [ yes h ↦ h | no h ↦ absurd (clash p (q m (omega arith))) ]
 
-    same : (f g : Found) → Tells test j l f → Tells test j l g → f ≡ g
-    same (At p) (At q) (m, d, o, x, y) (n, e, i, u, v) = ap At (omega (arith, below m n x v, below n m u y))
-    same (At p) Nothing (m, d, o, x, y) every = absurd (clash x (every m o))
-    same Nothing (At q) every (n, e, i, u, v) = absurd (clash u (every n i))
-    same Nothing Nothing every every' = refl
+    same : (f g : Option ℕ) → Tells test j l f → Tells test j l g → f ≡ g
+    same (Some p) (Some q) (m, d, o, x, y) (n, e, i, u, v) = ap Some (omega (arith, below m n x v, below n m u y))
+    same (Some p) None (m, d, o, x, y) every = absurd (clash x (every m o))
+    same None (Some q) every (n, e, i, u, v) = absurd (clash u (every n i))
+    same None None every every' = refl
 
 -- The turns of a search by place: none is left, this one passes, or the next is looked at.
 module _ (test : Interval → Bool) (n : ℕ) (list : List ℕ) (i : ℕ) where
-  pub first_end : i ≡ n → first_from test i (drop i (records n list)) ≡ Nothing
+  pub first_end : i ≡ n → first_from test i (drop i (records n list)) ≡ None
   unfolding first_from
   first_end e = rw (records_end n list i e)
 
-  pub first_here : i < n → test (record_at list i) ≡ true → first_from test i (drop i (records n list)) ≡ At i
+  pub first_here : i < n → test (record_at list i) ≡ true → first_from test i (drop i (records n list)) ≡ Some i
   unfolding first_from
   first_here l e = rw (records_next n list i l, first_from, e)
 
@@ -77,27 +75,27 @@ module _ (test : Interval → Bool) (n : ℕ) (list : List ℕ) (i : ℕ) where
       rw (records_next n list i l, first_from, e, next)
 
 -- What an answer of a search says of the list.
-module _ (test : Interval → Bool) (l : List Interval) {f : Found} (e : f ≡ first_from test 0 l) where
+module _ (test : Interval → Bool) (l : List Interval) {f : Option ℕ} (e : f ≡ first_from test 0 l) where
   told : Tells test 0 l f
   told = rw e (first_tells test 0 l)
 
   -- The interval found stands there and passes.
-  first_at : (j : ℕ) → f ≡ At j → (j < length l) × (test (interval_at l j) ≡ true)
-  first_at j p = go (subst (λ (g : Found). Tells test 0 l g) p told)
+  first_at : (j : ℕ) → f ≡ Some j → (j < length l) × (test (interval_at l j) ≡ true)
+  first_at j p = go (subst (λ (g : Option ℕ). Tells test 0 l g) p told)
     where
-      go : Tells test 0 l (At j) → (j < length l) × (test (interval_at l j) ≡ true)
+      go : Tells test 0 l (Some j) → (j < length l) × (test (interval_at l j) ≡ true)
       go (n, q, h, t, b) =
           let here : n ≡ j = omega arith in
           (omega arith, subst (λ (m : ℕ). test (interval_at l m) ≡ true) here t)
 
   -- Where none is found none passes.
-  first_none : f ≡ Nothing → (j : ℕ) → j < length l → test (interval_at l j) ≡ false
-  first_none p = subst (λ (g : Found). Tells test 0 l g) p told
+  first_none : f ≡ None → (j : ℕ) → j < length l → test (interval_at l j) ≡ false
+  first_none p = subst (λ (g : Option ℕ). Tells test 0 l g) p told
 
 -- What the choice for an allot of s words says of the list.
-module _ (s : ℕ) (l : List Interval) {f : Found} (e : f ≡ fitting s l) where
+module _ (s : ℕ) (l : List Interval) {f : Option ℕ} (e : f ≡ fitting s l) where
   -- The chosen interval has the words.
-  pub fitting_in : (j : ℕ) → f ≡ At j → In l (interval_at l j).start s j
+  pub fitting_in : (j : ℕ) → f ≡ Some j → In l (interval_at l j).start s j
   unfolding fitting
   fitting_in j p =
       let x = first_at (fits s) l e j p in
@@ -105,7 +103,7 @@ module _ (s : ℕ) (l : List Interval) {f : Found} (e : f ≡ fitting s l) where
       record { there = x.0; low = omega arith; high = omega arith }
 
   -- None is chosen only if no listed interval has them.
-  pub fitting_none : f ≡ Nothing → (j : ℕ) → j < length l → (interval_at l j).size < s
+  pub fitting_none : f ≡ None → (j : ℕ) → j < length l → (interval_at l j).size < s
   unfolding fitting
   fitting_none p j h = leb-false s (interval_at l j).size (first_none (fits s) l e p j h)
 
@@ -126,9 +124,9 @@ behind_contains : (a s : ℕ) (i : Interval) → a < i.start → contains a s i 
 behind_contains a s i p = rw (lt-leb i.start a p)
 
 -- What the search for the s words from a on says of the list.
-module _ (a s : ℕ) (l : List Interval) {f : Found} (e : f ≡ holder a s l) where
+module _ (a s : ℕ) (l : List Interval) {f : Option ℕ} (e : f ≡ holder a s l) where
   -- The interval found contains them.
-  pub holder_in : (j : ℕ) → f ≡ At j → In l a s j
+  pub holder_in : (j : ℕ) → f ≡ Some j → In l a s j
   unfolding holder
   holder_in j p =
       let x = first_at (contains a s) l e j p in
@@ -136,13 +134,13 @@ module _ (a s : ℕ) (l : List Interval) {f : Found} (e : f ≡ holder a s l) wh
       record { there = x.0; low = y.0; high = y.1 }
 
   -- None is found only if none contains them.
-  pub holder_none : f ≡ Nothing → Holds l a s → ⊥
+  pub holder_none : f ≡ None → Holds l a s → ⊥
   unfolding holder
   holder_none p (j, i) = clash (in_contains a s (interval_at l j) i.low i.high) (first_none (contains a s) l e p j i.there)
 
 -- Halving has come to one place: intervals before it end below a, those behind it start above a, and it alone is left to look at.
 holder_left : (a s : ℕ) (l : List Interval) (lo hi : ℕ) → Sorted l → lo < length l → hi ≤ suc lo → (0 < lo → (interval_at l lo).start ≤ a) → (hi < length l → a < (interval_at l hi).start)
-    → holder a s l ≡ cond (contains a s (interval_at l lo)) (At lo) Nothing
+    → holder a s l ≡ cond (contains a s (interval_at l lo)) (Some lo) None
 unfolding holder
 holder_left a s l lo hi sorted inside near low high = go (contains a s (interval_at l lo)) refl
   where
@@ -156,9 +154,9 @@ holder_left a s l lo hi sorted inside near low high = go (contains a s (interval
           | no e ↦ behind_contains a s (interval_at l m) (omega (arith, sorted hi m (omega arith) o, high (omega arith)))
         ]
 
-    go : (t : Bool) → contains a s (interval_at l lo) ≡ t → first_from (contains a s) 0 l ≡ cond t (At lo) Nothing
-    go true e = tells_first (contains a s) 0 l (At lo) (lo, omega arith, inside, e, before)
-    go false e = tells_first (contains a s) 0 l Nothing every
+    go : (t : Bool) → contains a s (interval_at l lo) ≡ t → first_from (contains a s) 0 l ≡ cond t (Some lo) None
+    go true e = tells_first (contains a s) 0 l (Some lo) (lo, omega arith, inside, e, before)
+    go false e = tells_first (contains a s) 0 l None every
       where
         every : (m : ℕ) → m < length l → contains a s (interval_at l m) ≡ false
         every m o =
@@ -169,7 +167,7 @@ holder_left a s l lo hi sorted inside near low high = go (contains a s (interval
 
 -- The same of records, with what the test of that record gave.
 pub holding_left : (a s n : ℕ) (list : List ℕ) (lo hi : ℕ) {r : Interval} {t : Bool} → r ≡ record_at list lo → Sorted (records n list) → lo < n → hi ≤ suc lo → (0 < lo → (record_at list lo).start ≤ a) → (hi < n → a < (record_at list hi).start)
-    → contains a s r ≡ t → holder a s (records n list) ≡ cond t (At lo) Nothing
+    → contains a s r ≡ t → holder a s (records n list) ≡ cond t (Some lo) None
 holding_left a s n list lo hi e sorted inside near low high test =
     let same : length (records n list) ≡ n = length-records n list in
     let here : interval_at (records n list) lo ≡ record_at list lo = record_at_lem n list lo inside in

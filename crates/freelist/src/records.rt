@@ -27,8 +27,7 @@ pub fn are_valid(list: &[u32], count: usize, words: usize, keep: usize) -> bool
         return false;
     }
     let mut end = 0;
-    let mut i = 0;
-    while i < count {
+    for i in 0..count {
         let record = at(list, i);
         let start = record.start;
         let size = record.size;
@@ -37,7 +36,6 @@ pub fn are_valid(list: &[u32], count: usize, words: usize, keep: usize) -> bool
             return false;
         }
         end = next;
-        i += 1;
     }
     true
 }

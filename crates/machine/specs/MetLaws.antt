@@ -1,5 +1,5 @@
 -- Meeting a reference, way out by way out: what the code asks for is there, and what it answers is what the machine answers.
-use Rattle.std.specs.Prelude.{ℕ, suc, ◌+◌, ◌*◌, ◌/◌, ◌≤◌, ◌<◌, max, ◌≡◌, refl, ◌≢◌, Bool, true, false, List, ◌∷◌, length, set}
+use Rattle.std.specs.Prelude.{ℕ, suc, ◌+◌, ◌*◌, ◌/◌, ◌≤◌, ◌<◌, max, ◌≡◌, refl, ◌≢◌, Bool, true, false, List, ◌∷◌, length, set, Option, Some, None}
 use Rattle.std.proofs.Common.{sym, ◌∙◌, arith}
 use Rattle.std.proofs.Math.Path.{ap}
 use mathlib.Mathlib.Data.Bool.Basic.{eq-true_of_not-eq-false}
@@ -13,8 +13,6 @@ use Rattle.runs.specs.Lists.{In, Holds, cut}
 use Rattle.freelist.specs.Records.{records}
 use Rattle.freelist.specs.Search.{holder, Sorted}
 use Rattle.freelist.specs.SearchLaws.{holder_in, holder_none}
-use Rattle.freelist.specs.declared.search.Found.{Found}
-use Rattle.freelist.specs.declared.search.Found.TheVariants.{At, Nothing}
 use Rattle.split.specs.Relisted.{relisted}
 use Rattle.marking.specs.Marking.{going, marked, overlaps}
 use Rattle.marking.specs.Meets.{New, empty, outside, again, ill_formed, overlapping, apart}
@@ -91,12 +89,12 @@ module _ {heap : List ℕ} {t : ℕ} {map stack list : List ℕ} {p : Progress} 
   apart_held e = rw (shows_records x.fit.shows, k.size) ((overlaps_holds heap t map r x.fit.limits.keeps k.new.some is).0 e)
 
   -- What the search found.
-  module _ {found : Found} (ef : found ≡ holder r s (records p.count list)) where
+  module _ {found : Option ℕ} (ef : found ≡ holder r s (records p.count list)) where
     -- An object that no record holds is refused with 6.
-    pub met_over : found ≡ Nothing → Met heap t map stack p r map stack list (Refused 6 r)
+    pub met_over : found ≡ None → Met heap t map stack p r map stack list (Refused 6 r)
     met_over e = record { same = λ roots. meets_meet (overlapping k.new k.well (eq-true_of_not-eq-false λ o. holder_none r s (records p.count list) ef e (apart_held o))); fit = tt }
 
-    module _ {j : ℕ} (e : found ≡ At j) where
+    module _ {j : ℕ} (e : found ≡ Some j) where
       held : In (records p.count list) r s j
       held = holder_in r s (records p.count list) ef j e
 

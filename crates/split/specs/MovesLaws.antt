@@ -1,10 +1,11 @@
 -- Laws of the moves: what stands in the words while they go on, and when they are done.
-use Rattle.std.specs.Prelude.{ℕ, suc, ◌+◌, ◌≤◌, ◌<◌, ◌≡◌, List, [], ◌∷◌, ◌++◌, length, get_or, take, drop, set}
+use Rattle.std.specs.Prelude.{ℕ, suc, ◌+◌, ◌-◌, ◌≤◌, ◌<◌, ◌≡◌, refl, List, [], ◌∷◌, ◌++◌, length, get_or, take, drop, set}
 use Rattle.std.proofs.Common.{sym, ap, ◌∙◌, append_assoc, arith, add-one, take-append-drop, length-append, length-drop, length-take-le, take-suc, take-take, take_at, drop_at, get_or-take, get_or-drop, drop-drop}
 use Rattle.std.proofs.Math.ListN.{get_or-append}
 use Rattle.std.proofs.Math.Seq.{slice, slice_empty, slice-cons, length-slice, append_snoc, paste, paste-zero, paste-suc, length_paste_head}
-use Rattle.std.proofs.lemmas.List.{take-append-le, set_at}
+use Rattle.std.proofs.lemmas.List.{take-append-le, set_at, drop-take}
 use Rattle.std.proofs.lemmas.List.Edits.{sets-eq, length-paste}
+use Rattle.std.specs.List.{copy_within}
 use Rattle.split.specs.Moves.{raised, lowered}
 use Rattle.split.specs.OffsetLaws.{gets, drops}
 
@@ -33,6 +34,15 @@ rising_more list to i j q h f =
     rw (v, t, w)
     (ap (λ (z : List ℕ). set z (j + 2) (get_or list j 0)) (append_snoc (take (j + 2) list) (get_or list (j + 2) 0) r) ∙ set_at (take (j + 2) list) (get_or list (j + 2) 0) r (get_or list j 0) (j + 2) n)
 
+-- A copy of all of them at once moves them so.
+pub rising_copied : (list : List ℕ) (at to : ℕ) → at ≤ to → copy_within list at to (at + 2) ≡ rising list to at
+rising_copied list at to h =
+    let n : ℕ = to - at in
+    let e : to ≡ at + n = omega arith in
+    let behind : at + 2 + n ≡ to + 2 = omega arith in
+    let part : slice at to list ≡ take n (drop at list) = ap (λ (k : ℕ). drop at (take k list)) e ∙ drop-take at n list in
+    rw (behind, part) (append_assoc (take (at + 2) list) (take n (drop at list)) (drop (to + 2) list))
+
 -- The length stays.
 length-rising : (list : List ℕ) (to i : ℕ) → i ≤ to → to + 2 ≤ length list → length (rising list to i) ≡ length list
 length-rising list to i h f = simp (length-append, length-take-le (i + 2) list (omega arith), length-slice i to list (omega arith), length-drop) (omega arith)
@@ -53,6 +63,10 @@ falling list at n = paste list at (drop (at + 2) list) n
 -- At first nothing has moved.
 pub falling_none : (list : List ℕ) (at : ℕ) → list ≡ falling list at 0
 falling_none list at = paste-zero list at (drop (at + 2) list)
+
+-- A copy of all of them at once moves them so.
+pub falling_copied : (list : List ℕ) (at n : ℕ) → copy_within list (at + 2) (at + n + 2) at ≡ falling list at n
+falling_copied list at n = let e : at + n + 2 - (at + 2) ≡ n = omega arith in rw e refl
 
 -- How many words stand before the one in hand.
 falling_head : (list : List ℕ) (at n : ℕ) → at + n + 2 ≤ length list → length (take at list ++ take n (drop (at + 2) list)) ≡ at + n

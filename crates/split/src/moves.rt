@@ -7,11 +7,7 @@ pub(crate) fn up(list: &mut [u32], at: usize, to: usize, start: u32, size: u32)
     requires { (at ≤ to) × (to + 2 ≤ length list.old) }
     ensures { list.new ≡ raised at to start size list.old }
 {
-    let mut i = to;
-    while at < i {
-        i -= 1;
-        list[i + 2] = list[i];
-    }
+    list.copy_within(at..to, at + 2);
     list[at] = start;
     list[at + 1] = size;
 }
@@ -22,11 +18,7 @@ pub(crate) fn down(list: &mut [u32], at: usize, n: usize)
     ensures { list.new ≡ lowered at n list.old }
 {
     let end = at + n;
-    let mut i = at;
-    while i < end {
-        list[i] = list[i + 2];
-        i += 1;
-    }
+    list.copy_within(at + 2..end + 2, at);
     list[end] = 0;
     list[end + 1] = 0;
 }

@@ -1,6 +1,6 @@
 -- Laws of an allot.
 use Prim.Native.Nat.{ℕ, ◌+◌, ◌-◌, ◌*◌, ◌/◌, ◌≤◌, ◌<◌}
-use Rattle.std.specs.Prelude.{◌≡◌, ◌≢◌, Bool, true, false, ◌&&◌, List, ◌++◌, length, take, drop}
+use Rattle.std.specs.Prelude.{◌≡◌, ◌≢◌, Bool, true, false, ◌&&◌, List, ◌++◌, length, take, drop, Option, Some, None}
 use Rattle.std.proofs.Math.Path.{refl}
 use Rattle.std.proofs.Common.{sym, ap, ◌∙◌, arith, length-take-le, lit<}
 use Rattle.std.proofs.Math.Bool.{and-eq-true_iff}
@@ -19,8 +19,6 @@ use Rattle.freelist.specs.Records.{record_at, records, valid_list}
 use Rattle.freelist.specs.RecordsLaws.{length-records, record_at_lem, valid_ordered}
 use Rattle.freelist.specs.Search.{fitting}
 use Rattle.freelist.specs.SearchLaws.{fitting_in}
-use Rattle.freelist.specs.declared.search.Found.{Found}
-use Rattle.freelist.specs.declared.search.Found.TheVariants.{At, Nothing}
 use Rattle.split.specs.Relisted.{relisted}
 use Rattle.split.specs.SidesLaws.{in_read, front_sides, front_fits}
 use Rattle.store.specs.Allot.{Allotment, allotment, allot_refused, askable, asked_code, with_object, placed, allots_in, allots, Parts}
@@ -102,7 +100,7 @@ pub record Ready (state : State) (heap map list : List ℕ) (s p : ℕ) : Type 0
 pub record Chosen (state : State) (heap map list : List ℕ) (s p j : ℕ) : Type 0 where
   pub ready : Ready state heap map list s p
   pub front : In (records state.count list) (interval_at (records state.count list) j).start s j
-  pub left : allots_in state heap map list s p ≡ placed state heap map list s p (At j)
+  pub left : allots_in state heap map list s p ≡ placed state heap map list s p (Some j)
 
 -- The answer in the needed parts, where the number is worked out.
 module _ {state : State} {heap map list : List ℕ} (z : Parts state heap map list) (s p : ℕ) {code : ℕ} (e : code ≡ asked_code state.words state.keep state.count list s p) where
@@ -134,14 +132,14 @@ module _ {state : State} {heap map list : List ℕ} (z : Parts state heap map li
           fewer = ltb-true p s able.1;
         }
 
-    module _ {f : Found} (q : f ≡ fitting s (records state.count list)) where
+    module _ {f : Option ℕ} (q : f ≡ fitting s (records state.count list)) where
       -- Where no interval has the words it refuses with 8.
-      pub allot_full : f ≡ Nothing → allotment (allot_refused 8 state) heap map list ≡ allots_in state heap map list s p
+      pub allot_full : f ≡ None → allotment (allot_refused 8 state) heap map list ≡ allots_in state heap map list s p
       unfolding allots_in placed
       allot_full nothing = rw (← e, none, ← q, nothing)
 
       -- Else one is chosen.
-      pub chosen : {j : ℕ} → f ≡ At j → Chosen state heap map list s p j
+      pub chosen : {j : ℕ} → f ≡ Some j → Chosen state heap map list s p j
       unfolding allots_in
       chosen {j} at = record { ready = ready; front = fitting_in s (records state.count list) q j at; left = rw (← e, none, ← q, at) }
 

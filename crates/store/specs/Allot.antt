@@ -1,5 +1,5 @@
 -- An allot, as one function from what it is lent to what it leaves.
-use Rattle.std.specs.Prelude.{ℕ, ◌+◌, ◌-◌, ◌≡◌, Bool, true, ◌&&◌, List, ◌∷◌, ◌++◌, length, take, drop, replicate, leb, ltb, eqb}
+use Rattle.std.specs.Prelude.{ℕ, ◌+◌, ◌-◌, ◌≡◌, Bool, true, ◌&&◌, List, ◌∷◌, ◌++◌, length, take, drop, replicate, leb, ltb, eqb, Option, Some, None}
 use Rattle.words.specs.Header.{header_word}
 use Rattle.words.specs.Map.{set_bit}
 use Rattle.layout.specs.Limits.{suits, map_words, list_words}
@@ -9,8 +9,6 @@ use Rattle.layout.specs.declared.State.{State}
 use Rattle.runs.specs.Lists.{interval_at, without_front}
 use Rattle.freelist.specs.Records.{records, valid_list}
 use Rattle.freelist.specs.Search.{fitting}
-use Rattle.freelist.specs.declared.search.Found.{Found}
-use Rattle.freelist.specs.declared.search.Found.TheVariants.{At, Nothing}
 use Rattle.split.specs.Relisted.{relisted}
 use Rattle.store.specs.declared.allots.Allotted.{Allotted}
 
@@ -45,9 +43,9 @@ unfoldable pub with_object : List ℕ → ℕ → ℕ → ℕ → List ℕ
 with_object heap a s p = take a heap ++ (header_word s p ∷ replicate (s - 1) 0) ++ drop (a + s) heap
 
 -- What is left where an interval was chosen: its front is the new object; refusal 8 where none was.
-unfoldable pub placed : State → List ℕ → List ℕ → List ℕ → ℕ → ℕ → Found → Allotment
-placed state heap map list s p Nothing = allotment (allot_refused 8 state) heap map list
-placed state heap map list s p (At j) =
+unfoldable pub placed : State → List ℕ → List ℕ → List ℕ → ℕ → ℕ → Option ℕ → Allotment
+placed state heap map list s p None = allotment (allot_refused 8 state) heap map list
+placed state heap map list s p (Some j) =
     let l : List Interval = records state.count list in
     let a : ℕ = (interval_at l j).start in
     let free : List Interval = without_front state.keep s l j in

@@ -18,15 +18,15 @@ loop-i-preserved c =
     let test = ap (fits t.s) (sym c.at-record.ensures.value) ∙ lt-leb t.s c.at-record.result.size (omega arith) in
     (search rules, h.invariant.1 ∙ first_next (fits t.s) t.count t.list.now h.i (omega arith) test)
 
-pub returns-then-count-i : goal.returns-then-count-i
-returns-then-count-i c =
-    let t = c.args in
-    let h = c.loop-i in
-    sym (h.invariant.1 ∙ first_end (fits t.s) t.count t.list.now h.i (omega arith))
-
 pub returns-then-s-size : goal.returns-then-s-size
 returns-then-s-size c =
     let t = c.args in
     let h = c.loop-i in
     let test = ap (fits t.s) (sym c.at-record.ensures.value) ∙ le-leb t.s c.at-record.result.size (omega arith) in
     sym (h.invariant.1 ∙ first_here (fits t.s) t.count t.list.now h.i (omega arith) test)
+
+pub returns-after-loop-i : goal.returns-after-loop-i
+returns-after-loop-i c =
+    let t = c.args in
+    let h = c.loop-i in
+    sym (h.invariant.1 ∙ first_end (fits t.s) t.count t.list.now h.i (omega arith))

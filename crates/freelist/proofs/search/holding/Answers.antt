@@ -1,4 +1,5 @@
 -- `search::holding`: record lo starts at a or before it, and record hi past a.
+use Rattle.std.specs.Prelude.{Some, None}
 use Prim.Native.Nat.{ℕ}
 use mathlib.Core.Bool.{Bool, cond}
 use mathlib.Core.Path.{◌≡◌, sym, ap}
@@ -7,7 +8,6 @@ use borrow.Author.Rules.{rules}
 use Rattle.freelist.specs.Records.{records}
 use Rattle.freelist.specs.Search.{contains, first_from, holder}
 use Rattle.freelist.specs.SearchLaws.{holding_left}
-use Rattle.freelist.specs.declared.search.Found.TheVariants.{At, Nothing}
 use Rattle.layout.specs.declared.Interval.{Interval}
 use Rattle.freelist.proofs.search.holding.Goals as goal
 use Rattle.freelist.proofs.search.holding.Goals.{After-at-record-2}
@@ -27,7 +27,7 @@ loop-hi-preserved c = (search rules, search rules, c.loop-hi.invariant.2, λ _. 
 
 -- The record that halving has come to is the only one left to look at.
 left : {test : Bool} (c : After-at-record-2) → let t = c.args in contains t.a t.s c.at-record-2.result ≡ test
-    → holder t.a t.s (records t.count t.list.now) ≡ cond test (At c.loop-hi.lo) Nothing
+    → holder t.a t.s (records t.count t.list.now) ≡ cond test (Some c.loop-hi.lo) None
 left c =
     let t = c.args in
     let h = c.loop-hi in
