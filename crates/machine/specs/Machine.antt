@@ -1,6 +1,7 @@
 -- The buffers and numbers of a collection, read as the machine.
-use Prim.{Unit}
-use Rattle.std.specs.Prelude.{ℕ, zero, suc, ◌+◌, ◌/◌, ◌≤◌, ◌<◌, max, ◌≡◌, List, [], ◌∷◌, length, get_or, take, drop, replicate}
+use Rattle.std.specs.Prelude.{ℕ, zero, suc, ◌+◌, ◌/◌, ◌≤◌, ◌<◌, max, ◌≡◌, List, [], ◌∷◌, length, get_or, take, drop, replicate, Option, Some, None, Result, Ok, Err, IfOk}
+use Rattle.std.specs.Option.{unwrap_or}
+use Rattle.layout.specs.Refusal.{number}
 use Rattle.layout.specs.Intervals.{shown}
 use Rattle.layout.specs.Limits.{max_words, max_roots, map_words, stack_words, list_words}
 use Rattle.layout.specs.LimitsLaws.{Limits}
@@ -9,10 +10,7 @@ use Rattle.runs.specs.Runs.{free_list}
 use Rattle.marking.specs.Marking.{Marking, Outcome, going, done, refused, meet, move, collection}
 use Rattle.marking.specs.Invariant.{Room, Invariant}
 use Rattle.machine.specs.declared.Progress.{Progress}
-use Rattle.machine.specs.declared.Step.{Step}
-use Rattle.machine.specs.declared.Step.TheVariants.{Going, Done, Refused}
-use Rattle.machine.specs.declared.Ended.{Ended}
-use Rattle.machine.specs.declared.Ended.TheVariants as ended
+use Rattle.machine.specs.declared.Fault.{Fault}
 
 -- The first n words of the stack's buffer, the last of them first.
 unfoldable pub pile : List ℕ → ℕ → List ℕ
@@ -32,16 +30,26 @@ marking_of heap roots map stack p = record {
   peak = p.peak;
 }
 
--- What a move came to, as an outcome of the machine.
-abbrev pub outcome_of : List ℕ → List ℕ → List ℕ → List ℕ → Step → Outcome
-outcome_of heap roots map stack (Going p) = going (marking_of heap roots map stack p)
-outcome_of heap roots map stack (Done p) = done (marking_of heap roots map stack p)
-outcome_of heap roots map stack (Refused c r) = refused c r
+-- What a move from p came to, as an outcome of the machine.
+abbrev pub outcome_of : List ℕ → List ℕ → List ℕ → List ℕ → Progress → Result (Option Progress) Fault → Outcome
+outcome_of heap roots map stack p (Ok (Some q)) = going (marking_of heap roots map stack q)
+outcome_of heap roots map stack p (Ok None) = done (marking_of heap roots map stack p)
+outcome_of heap roots map stack p (Err f) = refused (number f.refusal) f.place
 
--- How a run ended, as what its last move came to.
-abbrev pub step_of : Ended → Step
-step_of (ended.Done p) = Done p
-step_of (ended.Refused c r) = Refused c r
+-- What meeting a reference came to.
+abbrev pub met_of : List ℕ → List ℕ → List ℕ → List ℕ → Result Progress Fault → Outcome
+met_of heap roots map stack (Ok q) = going (marking_of heap roots map stack q)
+met_of heap roots map stack (Err f) = refused (number f.refusal) f.place
+
+-- Where a reference was met the move goes on.
+abbrev pub moved_of : Result Progress Fault → Result (Option Progress) Fault
+moved_of (Ok q) = Ok (Some q)
+moved_of (Err f) = Err f
+
+-- How a run ended.
+abbrev pub end_of : List ℕ → List ℕ → List ℕ → List ℕ → Result Progress Fault → Outcome
+end_of heap roots map stack (Ok q) = done (marking_of heap roots map stack q)
+end_of heap roots map stack (Err f) = refused (number f.refusal) f.place
 
 -- The list's buffer shows the free list of the map, and n is its count.
 pub record Shows (heap : List ℕ) (t : ℕ) (map list : List ℕ) (n : ℕ) : Type 0 where
@@ -54,12 +62,6 @@ pub record Fit (heap : List ℕ) (t : ℕ) (map stack list : List ℕ) (p : Prog
   pub stack_size : length stack ≡ stack_words (length heap) t
   pub in_hand : p.at + p.left ≤ length heap
   pub shows : Shows heap t map list p.count
-
--- They fit wherever the collection has not been refused.
-abbrev pub FitAfter : List ℕ → ℕ → List ℕ → List ℕ → List ℕ → Step → Type 0
-FitAfter heap t map stack list (Going p) = Fit heap t map stack list p
-FitAfter heap t map stack list (Done p) = Fit heap t map stack list p
-FitAfter heap t map stack list (Refused c r) = Unit
 
 -- A reference can be met.
 pub record Meeting (heap : List ℕ) (t : ℕ) (map stack list : List ℕ) (p : Progress) : Type 0 where
@@ -80,9 +82,9 @@ pub record Noting (map stack : List ℕ) (p : Progress) (r s : ℕ) : Type 0 whe
   pub live : p.live + s < max_words
 
 -- The reference r was met as the machine meets it, whatever the roots are.
-pub record Met (heap : List ℕ) (t : ℕ) (map stack : List ℕ) (p : Progress) (r : ℕ) (map' stack' list' : List ℕ) (o : Step) : Type 0 where
-  pub same : (roots : List ℕ) → outcome_of heap roots map' stack' o ≡ meet heap t (marking_of heap roots map stack p) r
-  pub fit : FitAfter heap t map' stack' list' o
+pub record Met (heap : List ℕ) (t : ℕ) (map stack : List ℕ) (p : Progress) (r : ℕ) (map' stack' list' : List ℕ) (o : Result Progress Fault) : Type 0 where
+  pub same : (roots : List ℕ) → met_of heap roots map' stack' o ≡ meet heap t (marking_of heap roots map stack p) r
+  pub fit : IfOk o (λ q. Fit heap t map' stack' list' q)
 
 -- A move can be made.
 pub record Ready (heap : List ℕ) (t : ℕ) (roots map stack list : List ℕ) (p : Progress) : Type 0 where
@@ -91,9 +93,9 @@ pub record Ready (heap : List ℕ) (t : ℕ) (roots map stack list : List ℕ) (
   pub invariant : Invariant heap t roots (marking_of heap roots map stack p)
 
 -- A move was made as the machine makes it.
-pub record Moved (heap : List ℕ) (t : ℕ) (roots map stack : List ℕ) (p : Progress) (map' stack' list' : List ℕ) (o : Step) : Type 0 where
-  pub same : outcome_of heap roots map' stack' o ≡ move heap t (marking_of heap roots map stack p)
-  pub fit : FitAfter heap t map' stack' list' o
+pub record Moved (heap : List ℕ) (t : ℕ) (roots map stack : List ℕ) (p : Progress) (map' stack' list' : List ℕ) (o : Result (Option Progress) Fault) : Type 0 where
+  pub same : outcome_of heap roots map' stack' p o ≡ move heap t (marking_of heap roots map stack p)
+  pub fit : IfOk o (λ q. Fit heap t map' stack' list' (unwrap_or q p))
 
 -- The buffers stand as at the beginning: a clear map, and the first list with its count.
 pub record Begun (heap : List ℕ) (t : ℕ) (roots map stack list : List ℕ) (count : ℕ) : Type 0 where
@@ -105,6 +107,6 @@ pub record Begun (heap : List ℕ) (t : ℕ) (roots map stack list : List ℕ) (
   pub count_first : count ≡ length (first_list (length heap) t)
 
 -- The run came to what the whole collection comes to.
-pub record Ran (heap : List ℕ) (t : ℕ) (roots map' stack' list' : List ℕ) (e : Ended) : Type 0 where
-  pub same : outcome_of heap roots map' stack' (step_of e) ≡ collection heap t roots
-  pub fit : FitAfter heap t map' stack' list' (step_of e)
+pub record Ran (heap : List ℕ) (t : ℕ) (roots map' stack' list' : List ℕ) (e : Result Progress Fault) : Type 0 where
+  pub same : end_of heap roots map' stack' e ≡ collection heap t roots
+  pub fit : IfOk e (λ p. Fit heap t map' stack' list' p)

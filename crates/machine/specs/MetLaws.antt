@@ -1,5 +1,5 @@
 -- Meeting a reference, way out by way out: what the code asks for is there, and what it answers is what the machine answers.
-use Rattle.std.specs.Prelude.{ℕ, suc, ◌+◌, ◌*◌, ◌/◌, ◌≤◌, ◌<◌, max, ◌≡◌, refl, ◌≢◌, Bool, true, false, List, ◌∷◌, length, set, Option, Some, None}
+use Rattle.std.specs.Prelude.{ℕ, suc, ◌+◌, ◌*◌, ◌/◌, ◌≤◌, ◌<◌, max, ◌≡◌, refl, ◌≢◌, Bool, true, false, List, ◌∷◌, length, set, Option, Some, None, Ok, Err}
 use Rattle.std.proofs.Common.{sym, ◌∙◌, arith}
 use Rattle.std.proofs.Math.Path.{ap}
 use mathlib.Mathlib.Data.Bool.Basic.{eq-true_of_not-eq-false}
@@ -23,7 +23,7 @@ use Rattle.machine.specs.Machine.{pile, Shows, Meeting, noted, Noting, Met}
 use Rattle.machine.specs.PileLaws.{length-pile, pile_push}
 use Rattle.machine.specs.ShowsLaws.{shows_records, shows_room, shows_sorted, shows_fits, shows_taken}
 use Rattle.machine.specs.declared.Progress.{Progress}
-use Rattle.machine.specs.declared.Step.TheVariants.{Going, Refused}
+use Rattle.layout.specs.declared.refusal.Refusal.TheVariants.{Address, Header, Overlap}
 
 -- The object at r, of s words, is well-formed and starts at no bit of the map.
 pub record Candidate (heap : List ℕ) (t : ℕ) (map : List ℕ) (r s : ℕ) : Type 0 where
@@ -38,12 +38,12 @@ noted_peak p s n peak e = rw e
 
 module _ {heap : List ℕ} {t : ℕ} {map stack list : List ℕ} {p : Progress} (x : Meeting heap t map stack list p) {r : ℕ} where
   -- An empty reference is passed.
-  pub met_empty : r ≡ 0 → Met heap t map stack p r map stack list (Going p)
+  pub met_empty : r ≡ 0 → Met heap t map stack p r map stack list (Ok p)
   met_empty e = record { same = λ roots. meets_meet (empty e); fit = x.fit }
 
   module _ (some : r ≢ 0) where
     -- One past the heap is refused with 4.
-    pub met_outside : length heap ≤ r → Met heap t map stack p r map stack list (Refused 4 r)
+    pub met_outside : length heap ≤ r → Met heap t map stack p r map stack list (Err (record { refusal = Address; place = r }))
     met_outside l = record { same = λ roots. meets_meet (outside some l); fit = tt }
 
     module _ (high : r < length heap) where
@@ -54,7 +54,7 @@ module _ {heap : List ℕ} {t : ℕ} {map stack list : List ℕ} {p : Progress} 
       -- What the test of the bit answered.
       module _ {bit : Bool} (eb : bit ≡ bit_at map r) where
         -- A start already marked is passed.
-        pub met_again : bit ≡ true → Met heap t map stack p r map stack list (Going p)
+        pub met_again : bit ≡ true → Met heap t map stack p r map stack list (Ok p)
         met_again e = record { same = λ roots. meets_meet (again some high (sym eb ∙ e)); fit = x.fit }
 
         -- What the test of the header answered.
@@ -63,7 +63,7 @@ module _ {heap : List ℕ} {t : ℕ} {map stack list : List ℕ} {p : Progress} 
           new = record { some = some; inside = high; unmarked = sym eb ∙ unset }
 
           -- A header that is not well-formed is refused with 5.
-          pub met_ill : fine ≡ false → Met heap t map stack p r map stack list (Refused 5 r)
+          pub met_ill : fine ≡ false → Met heap t map stack p r map stack list (Err (record { refusal = Header; place = r }))
           met_ill e = record { same = λ roots. meets_meet (ill_formed new (sym ew ∙ e)); fit = tt }
 
           -- Any other is a candidate, once its size is read.
@@ -91,7 +91,7 @@ module _ {heap : List ℕ} {t : ℕ} {map stack list : List ℕ} {p : Progress} 
   -- What the search found.
   module _ {found : Option ℕ} (ef : found ≡ holder r s (records p.count list)) where
     -- An object that no record holds is refused with 6.
-    pub met_over : found ≡ None → Met heap t map stack p r map stack list (Refused 6 r)
+    pub met_over : found ≡ None → Met heap t map stack p r map stack list (Err (record { refusal = Overlap; place = r }))
     met_over e = record { same = λ roots. meets_meet (overlapping k.new k.well (eq-true_of_not-eq-false λ o. holder_none r s (records p.count list) ef e (apart_held o))); fit = tt }
 
     module _ {j : ℕ} (e : found ≡ Some j) where
@@ -128,7 +128,7 @@ module _ {heap : List ℕ} {t : ℕ} {map stack list : List ℕ} {p : Progress} 
         shows = shows_taken x.fit.shows x.fit.limits.keeps (omega (arith, k.new.some)) k.new.inside inside k.size some held en el
 
         -- Any other is marked.
-        pub met_new : {map' stack' : List ℕ} {q : Progress} → q ≡ noted p s n → map' ≡ set_bit map r → stack' ≡ set stack p.depth r → Met heap t map stack p r map' stack' list' (Going q)
+        pub met_new : {map' stack' : List ℕ} {q : Progress} → q ≡ noted p s n → map' ≡ set_bit map r → stack' ≡ set stack p.depth r → Met heap t map stack p r map' stack' list' (Ok q)
         unfolding marked
         met_new {map'} {stack'} {q} eq em et = record {
           same = λ roots. ap going (rw (eq, em, et, shows.count, pile_push stack r p.depth deep, add-one p.objects, k.size) refl) ∙ meets_meet (apart k.new k.well (held_apart (j, held)));

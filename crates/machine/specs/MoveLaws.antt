@@ -1,5 +1,6 @@
 -- One move, way out by way out.
-use Rattle.std.specs.Prelude.{ℕ, zero, suc, ◌+◌, ◌-◌, ◌≤◌, ◌<◌, ◌≡◌, refl, List, [], ◌∷◌, length, get_or, take, drop}
+use Rattle.std.specs.Option.{unwrap_or}
+use Rattle.std.specs.Prelude.{ℕ, zero, suc, ◌+◌, ◌-◌, ◌≤◌, ◌<◌, ◌≡◌, refl, List, [], ◌∷◌, length, get_or, take, drop, Some, None, Result, Ok, Err, IfOk}
 use Rattle.std.proofs.Common.{◌∙◌, arith, drop-cons}
 use Rattle.std.proofs.Math.Nat.{div-le_self}
 use Rattle.std.proofs.Math.Numerals.{add-one}
@@ -11,11 +12,10 @@ use Rattle.layout.specs.Limits.{max_words, stack_words}
 use Rattle.marking.specs.Marking.{move}
 use Rattle.marking.specs.Invariant.{AllFormed}
 use Rattle.marking.proofs.InvariantLaws.{depth_room}
-use Rattle.machine.specs.Machine.{pile, Meeting, Met, Ready, Moved}
+use Rattle.machine.specs.Machine.{pile, outcome_of, met_of, moved_of, Fit, Meeting, Met, Ready, Moved}
 use Rattle.machine.specs.PileLaws.{length-pile, pile_none, pile_top}
 use Rattle.machine.specs.declared.Progress.{Progress}
-use Rattle.machine.specs.declared.Step.{Step}
-use Rattle.machine.specs.declared.Step.TheVariants.{Going, Done}
+use Rattle.machine.specs.declared.Fault.{Fault}
 
 -- What stands from place i on begins with the word there.
 next : (l : List ℕ) (i : ℕ) → i < length l → drop i l ≡ get_or l i 0 ∷ drop (i + 1) l
@@ -45,6 +45,16 @@ after_root p = record { next = p.next + 1; at = p.at; left = p.left; depth = p.d
 abbrev pub after_pop : Progress → ℕ → ℕ → Progress
 after_pop p a n = record { next = p.next; at = a + 1; left = n; depth = p.depth - 1; count = p.count; objects = p.objects; live = p.live; references = p.references; peak = p.peak }
 
+-- Where a reference was met, the move came to what the meeting came to.
+moved_same : (heap roots map stack : List ℕ) (p : Progress) (o : Result Progress Fault) → outcome_of heap roots map stack p (moved_of o) ≡ met_of heap roots map stack o
+moved_same heap roots map stack p (Ok q) = refl
+moved_same heap roots map stack p (Err f) = refl
+
+-- And what fits behind the meeting fits behind the move.
+moved_fit : (heap : List ℕ) (t : ℕ) (map stack list : List ℕ) (p : Progress) (o : Result Progress Fault) → IfOk o (λ q. Fit heap t map stack list q) → IfOk (moved_of o) (λ q. Fit heap t map stack list (unwrap_or q p))
+moved_fit heap t map stack list p (Ok q) f = f
+moved_fit heap t map stack list p (Err e) f = f
+
 module _ {heap : List ℕ} {t : ℕ} {roots map stack list : List ℕ} {p : Progress} (x : Ready heap t roots map stack list p) where
   -- The object in hand has a reference left.
   module _ (some : 0 < p.left) where
@@ -53,9 +63,9 @@ module _ {heap : List ℕ} {t : ℕ} {roots map stack list : List ℕ} {p : Prog
     meeting_field = record { fit = record { limits = x.fit.limits; stack_size = x.fit.stack_size; in_hand = omega (arith, x.fit.in_hand); shows = x.fit.shows }; room = x.invariant.room }
 
     -- It was met.
-    pub moved_field : {r : ℕ} {map' stack' list' : List ℕ} {o : Step} → r ≡ get_or heap p.at 0 → Met heap t map stack (after_field p) r map' stack' list' o → Moved heap t roots map stack p map' stack' list' o
+    pub moved_field : {r : ℕ} {map' stack' list' : List ℕ} {o : Result Progress Fault} → r ≡ get_or heap p.at 0 → Met heap t map stack (after_field p) r map' stack' list' o → Moved heap t roots map stack p map' stack' list' (moved_of o)
     unfolding move
-    moved_field e y = record { same = y.same roots ∙ rw (e, first heap p.at p.left some (omega (arith, x.fit.in_hand)), add-one p.references) refl; fit = y.fit }
+    moved_field {o = o} e y = record { same = moved_same _ _ _ _ p o ∙ y.same roots ∙ rw (e, first heap p.at p.left some (omega (arith, x.fit.in_hand)), add-one p.references) refl; fit = moved_fit _ _ _ _ _ p o y.fit }
 
   -- It has none left.
   module _ (none : p.left ≤ 0) where
@@ -84,7 +94,7 @@ module _ {heap : List ℕ} {t : ℕ} {roots map stack list : List ℕ} {p : Prog
         popped_inside = omega (arith, is.fewer, is.ends)
 
         -- It was popped.
-        pub moved_pop : {header : Header} → header ≡ header_at heap a → Moved heap t roots map stack p map stack list (Going (after_pop p a header.refs))
+        pub moved_pop : {header : Header} → header ≡ header_at heap a → Moved heap t roots map stack p map stack list (Ok (Some (after_pop p a header.refs)))
         unfolding move fields_of
         moved_pop eh = record {
           same = rw (take_none (drop p.at heap) p.left none, pile_top stack p.depth some, eh, add-one a, e) refl;
@@ -94,12 +104,12 @@ module _ {heap : List ℕ} {t : ℕ} {roots map stack list : List ℕ} {p : Prog
     -- The stack is empty.
     module _ (flat : p.depth ≤ 0) where
       -- The next root was met.
-      pub moved_root : {r : ℕ} {map' stack' list' : List ℕ} {o : Step} → p.next < length roots → r ≡ get_or roots p.next 0 → Met heap t map stack (after_root p) r map' stack' list' o → Moved heap t roots map stack p map' stack' list' o
+      pub moved_root : {r : ℕ} {map' stack' list' : List ℕ} {o : Result Progress Fault} → p.next < length roots → r ≡ get_or roots p.next 0 → Met heap t map stack (after_root p) r map' stack' list' o → Moved heap t roots map stack p map' stack' list' (moved_of o)
       unfolding move
-      moved_root l e y =
-          record { same = y.same roots ∙ rw (e, next roots p.next l, take_none (drop p.at heap) p.left none, pile_none stack p.depth flat, add-one p.references) refl; fit = y.fit }
+      moved_root {o = o} l e y =
+          record { same = moved_same _ _ _ _ p o ∙ y.same roots ∙ rw (e, next roots p.next l, take_none (drop p.at heap) p.left none, pile_none stack p.depth flat, add-one p.references) refl; fit = moved_fit _ _ _ _ _ p o y.fit }
 
       -- There is none, and the collection is done.
-      pub moved_done : length roots ≤ p.next → Moved heap t roots map stack p map stack list (Done p)
+      pub moved_done : length roots ≤ p.next → Moved heap t roots map stack p map stack list (Ok None)
       unfolding move
       moved_done l = record { same = rw (take_none (drop p.at heap) p.left none, pile_none stack p.depth flat, drop_of_length-le roots l) refl; fit = x.fit }

@@ -1,6 +1,6 @@
 -- The run to the end: what is left to run from here gives what the whole collection gives.
 use Prim.Native.Nat.{ℕ, zero, suc, ◌+◌, ◌<◌}
-use Rattle.std.specs.Prelude.{◌≡◌, List}
+use Rattle.std.specs.Prelude.{◌≡◌, List, Option, Some, None, Result, Ok, Err}
 use Rattle.std.proofs.Math.Path.{refl}
 use Rattle.std.proofs.Common.{sym, ◌∙◌, arith}
 use Rattle.std.proofs.Math.ListN.{length}
@@ -12,9 +12,8 @@ use Rattle.marking.proofs.InvariantLaws.{Less, move_less, begin_holds, begin_ahe
 use Rattle.marking.proofs.RunLaws.{run_done, run_refused}
 use Rattle.machine.specs.Machine.{pile, marking_of, outcome_of, Ready, Moved, Begun, Ran}
 use Rattle.machine.specs.declared.Progress.{Progress}
-use Rattle.machine.specs.declared.Step.{Step}
-use Rattle.machine.specs.declared.Step.TheVariants.{Going, Done, Refused}
-use Rattle.machine.specs.declared.Ended.TheVariants as ended
+use Rattle.machine.specs.declared.Fault.{Fault}
+use Rattle.layout.specs.Refusal.{number}
 
 -- So many moves are left to make, and they are enough.
 pub record Turn (heap : List ℕ) (t : ℕ) (roots map stack list : List ℕ) (p : Progress) : Type 0 where
@@ -63,15 +62,15 @@ module _ {heap : List ℕ} {t : ℕ} {roots map stack list : List ℕ} {p : Prog
       split zero e l g = absurd (omega arith)
       split (suc n) e l g = (n, e, g)
 
-  module _ {map' stack' list' : List ℕ} {o : Step} (y : Moved heap t roots map stack p map' stack' list' o) where
+  module _ {map' stack' list' : List ℕ} {o : Result (Option Progress) Fault} (y : Moved heap t roots map stack p map' stack' list' o) where
     -- The rest of the run from what the move came to.
-    rest : run onward.0 heap t (outcome_of heap roots map' stack' o) ≡ collection heap t roots
+    rest : run onward.0 heap t (outcome_of heap roots map' stack' p o) ≡ collection heap t roots
     rest = rw y.same onward.2
 
-    kept : Still (Less heap t x.ready.fit.limits.keeps roots (ahead heap (marking_of heap roots map stack p))) (outcome_of heap roots map' stack' o)
+    kept : Still (Less heap t x.ready.fit.limits.keeps roots (ahead heap (marking_of heap roots map stack p))) (outcome_of heap roots map' stack' p o)
     kept = rw y.same (move_less heap t x.ready.fit.limits.keeps roots (marking_of heap roots map stack p) x.ready.invariant)
 
-    module _ {q : Progress} (e : o ≡ Going q) where
+    module _ {q : Progress} (e : o ≡ Ok (Some q)) where
       -- Where it goes on less is ahead.
       pub turn_less : ahead heap (marking_of heap roots map' stack' q) < ahead heap (marking_of heap roots map stack p)
       turn_less = (rw e at kept).1
@@ -86,9 +85,9 @@ module _ {heap : List ℕ} {t : ℕ} {roots map stack list : List ℕ} {p : Prog
       }
 
     -- Where it is done so is the run.
-    pub ran_done : {q : Progress} → o ≡ Done q → Ran heap t roots map' stack' list' (ended.Done q)
-    ran_done {q} e = record { same = sym (run_done onward.0 heap t (marking_of heap roots map' stack' q)) ∙ (rw e at rest); fit = rw e at y.fit }
+    pub ran_done : o ≡ Ok None → Ran heap t roots map' stack' list' (Ok p)
+    ran_done e = record { same = sym (run_done onward.0 heap t (marking_of heap roots map' stack' p)) ∙ (rw e at rest); fit = rw e at y.fit }
 
     -- Where it is refused so is the run.
-    pub ran_refused : {c r : ℕ} → o ≡ Refused c r → Ran heap t roots map' stack' list' (ended.Refused c r)
-    ran_refused {c} {r} e = record { same = sym (run_refused onward.0 heap t c r) ∙ (rw e at rest); fit = tt }
+    pub ran_refused : {f : Fault} → o ≡ Err f → Ran heap t roots map' stack' list' (Err f)
+    ran_refused {f} e = record { same = sym (run_refused onward.0 heap t (number f.refusal) f.place) ∙ (rw e at rest); fit = tt }

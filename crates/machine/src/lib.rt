@@ -4,6 +4,7 @@
 mod moves;
 mod references;
 
+use layout::Refusal;
 pub use moves::run;
 
 // How far a collection has come.
@@ -25,17 +26,9 @@ pub struct Progress {
     pub peak: usize,
 }
 
-// What a move comes to: how far the collection has come, or a refusal's number and the reference met.
+// What is wrong with a reference, and which reference it is.
 #[derive(Clone, Copy)]
-pub(crate) enum Step {
-    Going(Progress),
-    Done(Progress),
-    Refused(u32, usize),
-}
-
-// How a run ends.
-#[derive(Clone, Copy)]
-pub enum Ended {
-    Done(Progress),
-    Refused(u32, usize),
+pub struct Fault {
+    pub refusal: Refusal,
+    pub place: usize,
 }

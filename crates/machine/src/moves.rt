@@ -1,10 +1,10 @@
 // One move, and the loop that makes them all.
 ghost use Rattle.machine.specs.Machine.{Ready, Moved, Begun, Ran};
 
-use crate::{Ended, Progress, Step, references};
+use crate::{Fault, Progress, references};
 use words::{Header, wide};
 
-// One move: meets the next reference of the object in hand, or pops an object, or meets the next root.
+// One move: meets the next reference of the object in hand, or pops an object, or meets the next root. Nothing if none is left.
 fn advance(
     heap: &[u32],
     keep: usize,
@@ -13,7 +13,7 @@ fn advance(
     stack: &mut [u32],
     list: &mut [u32],
     p: Progress,
-) -> Step
+) -> Result<Option<Progress>, Fault>
     requires { Ready heap.now keep roots.now map.old stack.old list.old p }
     ensures { Moved heap.now keep roots.now map.old stack.old p map.new stack.new list.new result }
 {
@@ -26,7 +26,8 @@ fn advance(
         q.at = at + 1;
         q.left = left - 1;
         q.references += 1;
-        return references::meet(heap, keep, map, stack, list, q, wide(heap[at]));
+        let q = references::meet(heap, keep, map, stack, list, q, wide(heap[at]))?;
+        return Ok(Some(q));
     }
     if 0 < depth {
         let a = wide(stack[depth - 1]);
@@ -35,14 +36,15 @@ fn advance(
         q.at = a + 1;
         q.left = refs;
         q.depth = depth - 1;
-        return Step::Going(q);
+        return Ok(Some(q));
     }
     if next < roots.len() {
         q.next = next + 1;
         q.references += 1;
-        return references::meet(heap, keep, map, stack, list, q, wide(roots[next]));
+        let q = references::meet(heap, keep, map, stack, list, q, wide(roots[next]))?;
+        return Ok(Some(q));
     }
-    Step::Done(q)
+    Ok(None)
 }
 
 // Runs the machine to its end, from a clear map and the first list with its count.
@@ -54,7 +56,7 @@ pub fn run(
     stack: &mut [u32],
     list: &mut [u32],
     count: usize,
-) -> Ended
+) -> Result<Progress, Fault>
     requires { Begun heap.now keep roots.now map.old stack.old list.old count }
     ensures { Ran heap.now keep roots.now map.new stack.new list.new result }
 {
@@ -69,17 +71,8 @@ pub fn run(
         references: 0,
         peak: count,
     };
-    loop {
-        match advance(heap, keep, roots, map, stack, list, p) {
-            Step::Going(q) => {
-                p = q;
-            }
-            Step::Done(q) => {
-                return Ended::Done(q);
-            }
-            Step::Refused(code, place) => {
-                return Ended::Refused(code, place);
-            }
-        }
+    while let Some(q) = advance(heap, keep, roots, map, stack, list, p)? {
+        p = q;
     }
+    Ok(p)
 }

@@ -3,9 +3,9 @@ ghost use Rattle.std.specs.Prelude.{◌≡◌, set};
 ghost use Rattle.words.specs.Map.{set_bit};
 ghost use Rattle.machine.specs.Machine.{Noting, noted, Meeting, Met};
 
-use crate::{Progress, Step};
+use crate::{Fault, Progress};
 use freelist::search;
-use freelist::search::Found;
+use layout::Refusal;
 use words::{Header, bits};
 
 // The object of s words at r is marked and pushed; n intervals are listed now.
@@ -38,28 +38,37 @@ pub(crate) fn meet(
     list: &mut [u32],
     p: Progress,
     r: usize,
-) -> Step
+) -> Result<Progress, Fault>
     requires { Meeting heap.now keep map.old stack.old list.old p }
     ensures { Met heap.now keep map.old stack.old p r map.new stack.new list.new result }
 {
     if r == 0 {
-        return Step::Going(p);
+        return Ok(p);
     }
     if heap.len() <= r {
-        return Step::Refused(4, r);
+        return Err(Fault {
+            refusal: Refusal::Address,
+            place: r,
+        });
     }
     if bits::is_set(map, r) {
-        return Step::Going(p);
+        return Ok(p);
     }
     if !Header::is_formed(heap, keep, r) {
-        return Step::Refused(5, r);
+        return Err(Fault {
+            refusal: Refusal::Header,
+            place: r,
+        });
     }
     let count = p.count;
     let header = Header::at(heap, r);
     let s = header.size;
-    let Found::At(j) = search::holding(list, count, r, s) else {
-        return Step::Refused(6, r);
+    let Some(j) = search::holding(list, count, r, s) else {
+        return Err(Fault {
+            refusal: Refusal::Overlap,
+            place: r,
+        });
     };
     let n = split::take_off(list, count, keep, r, s, j);
-    Step::Going(note(map, stack, p, r, s, n))
+    Ok(note(map, stack, p, r, s, n))
 }

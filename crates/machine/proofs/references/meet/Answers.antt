@@ -35,14 +35,14 @@ returns-in_default c =
 
 pub take_off-n-requires : goal.take_off-n-requires
 take_off-n-requires c =
-    let able = takeable c.requires (known (goal.at.take_off-n-requires c).After-at-header) c.holding.ensures c.in-At.is in
+    let able = takeable c.requires (known (goal.at.take_off-n-requires c).After-at-header) c.holding.ensures c.in-Some.is in
     record { listed = able.0; room = able.1 }
 
 pub note-requires : goal.note-requires
-note-requires c = noting c.requires (known (goal.at.note-requires c).After-at-header) c.holding.ensures c.in-At.is
+note-requires c = noting c.requires (known (goal.at.note-requires c).After-at-header) c.holding.ensures c.in-Some.is
 
 pub returns : goal.returns
 returns c =
     let off = c.take_off-n.ensures in
     let e = c.note.ensures in
-    met_new c.requires (known (goal.at.returns c).After-at-header) c.holding.ensures c.in-At.is off.value off.list_after e.value e.map_after e.stack_after
+    met_new c.requires (known (goal.at.returns c).After-at-header) c.holding.ensures c.in-Some.is off.value off.list_after e.value e.map_after e.stack_after
