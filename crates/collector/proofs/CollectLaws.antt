@@ -1,22 +1,23 @@
 -- Laws of a collection: how it begins in the needed parts, what it leaves there, and its ways out.
-use Rattle.std.specs.Prelude.{ℕ, ◌≤◌, ◌≡◌, Bool, true, false, ◌&&◌, List, ◌++◌, length, take, drop, replicate, leb}
+use Rattle.std.specs.Prelude.{ℕ, ◌≤◌, ◌≡◌, Bool, true, false, ◌&&◌, List, ◌++◌, length, take, drop, replicate, leb, Result, Ok, Err}
 use Rattle.std.proofs.Math.Path.{refl}
-use Rattle.std.proofs.Common.{◌∙◌, length-take-le, lit<, leb-true}
+use Rattle.std.proofs.Common.{ap, arith, ◌∙◌, length-take-le, lit<, leb-true}
 use Rattle.std.proofs.Math.Bool.{and-eq-true_iff}
 use Rattle.layout.specs.Intervals.{shown}
 use Rattle.layout.specs.Limits.{max_roots, suits, map_words, stack_words, list_words, rooms_of}
 use Rattle.layout.specs.LimitsLaws.{limits, two_fit, suits_by, Suited, suits_tells, suited}
-use Rattle.layout.specs.RefusalLaws.{no_refusal}
+use Rattle.layout.specs.Refusal.{number}
+use Rattle.layout.specs.RefusalLaws.{no_refusal, number_some, number_one}
 use Rattle.layout.specs.SetUp.{first_list}
 use Rattle.layout.specs.declared.Rooms.{Rooms}
 use Rattle.layout.specs.declared.State.{State}
 use Rattle.marking.specs.Marking.{Outcome, going, done, refused, collection}
 use Rattle.machine.specs.Machine.{Fit, Begun, Ran}
 use Rattle.machine.specs.declared.Progress.{Progress}
-use Rattle.machine.specs.declared.Ended.{Ended}
-use Rattle.machine.specs.declared.Ended.TheVariants.{Done, Refused}
-use Rattle.collector.specs.Collect.{Left, left, collect_refused, settles, collects_in, collects, Parts}
-use Rattle.collector.specs.declared.Collected.{Collected}
+use Rattle.machine.specs.declared.Fault.{Fault}
+use Rattle.collector.specs.declared.Collection.{Collection}
+use Rattle.collector.specs.declared.Refused.{Refused}
+use Rattle.collector.specs.Collect.{Collected, collect_told, Left, left, collect_refused, settles, collects_in, collects, Parts}
 
 -- A collection in the needed parts.
 module _ {heap : List ℕ} {t : ℕ} {roots map stack list : List ℕ} (z : Parts heap t roots map stack list) where
@@ -26,9 +27,9 @@ module _ {heap : List ℕ} {t : ℕ} {roots map stack list : List ℕ} (z : Part
   begun em ec el = record { limits = limits (length heap) t z.limits; few = z.few; map_clear = rw z.map_size at em; stack_size = z.stack_size; list_first = el; count_first = ec }
 
   -- The machine has run, and the stack is clear.
-  module _ {map' stack' list' stack'' : List ℕ} {e : Ended} (r : Ran heap t roots map' stack' list' e) (long : length stack' ≡ length stack) (es : stack'' ≡ replicate (length stack') 0) where
+  module _ {map' stack' list' stack'' : List ℕ} {e : Result Progress Fault} (r : Ran heap t roots map' stack' list' e) (long : length stack' ≡ length stack) (es : stack'' ≡ replicate (length stack') 0) where
     -- What is left where it is done.
-    pub leaves_done : {p : Progress} → e ≡ Done p
+    pub leaves_done : {p : Progress} → e ≡ Ok p
         → left (record { code = 0; place = 0; objects = p.objects; live = p.live; references = p.references; peak = p.peak; state = record { words = length heap; keep = t; count = p.count } }) map' stack'' list' ≡ collects_in heap t roots
     unfolding collects_in
     leaves_done {p} d =
@@ -36,8 +37,8 @@ module _ {heap : List ℕ} {t : ℕ} {roots map stack list : List ℕ} (z : Part
         rw (← r.same, d, es, long, z.stack_size, f.shows.words, f.shows.count) refl
 
     -- What is left where it is refused, once map and list are clear.
-    pub leaves_refused : {map'' list'' : List ℕ} {c w : ℕ} {a : Collected} → e ≡ Refused c w → length map' ≡ length map → map'' ≡ replicate (length map') 0 → length list' ≡ length list → list'' ≡ replicate (length list') 0
-        → a ≡ collect_refused c w (record { words = length heap; keep = t; count = 0 }) → left a map'' stack'' list'' ≡ collects_in heap t roots
+    pub leaves_refused : {map'' list'' : List ℕ} {f : Fault} {a : Collected} → e ≡ Err f → length map' ≡ length map → map'' ≡ replicate (length map') 0 → length list' ≡ length list → list'' ≡ replicate (length list') 0
+        → a ≡ collect_refused (number f.refusal) f.place (record { words = length heap; keep = t; count = 0 }) → left a map'' stack'' list'' ≡ collects_in heap t roots
     unfolding collects_in
     leaves_refused d km em kl el ea = rw (← r.same, d, ea, em, km, z.map_size, es, long, z.stack_size, el, kl, z.list_size) refl
 
@@ -111,3 +112,12 @@ collects_words state heap roots map stack list e =
     let x = no_refusal (λ (l : Left). l.answer.code) (suits state heap && leb (length roots) max_roots) _ _ (lit< tt) e in
     let y = no_refusal (λ (l : Left). l.answer.code) (leb (map_words h) (length map) && leb (stack_words h t) (length stack) && leb (list_words h t) (length list)) _ _ (lit< tt) x.1 in
     rw (x.0, y.0) (settles_words heap t (collection heap t roots))
+
+-- No two answers are told by the same numbers.
+pub collect_one : (x y : Result Collection Refused) → collect_told x ≡ collect_told y → x ≡ y
+collect_one (Ok c) (Ok d) e = ap (λ (a : Collected). Ok (record { objects = a.objects; live = a.live; references = a.references; peak = a.peak; state = a.state })) e
+collect_one (Ok c) (Err r) e = absurd (omega (arith, number_some r.fault.refusal, ap (λ (a : Collected). a.code) e))
+collect_one (Err r) (Ok c) e = absurd (omega (arith, number_some r.fault.refusal, ap (λ (a : Collected). a.code) e))
+collect_one (Err r) (Err q) e =
+    let same = number_one r.fault.refusal q.fault.refusal (ap (λ (a : Collected). a.code) e) in
+    rw (same, ap (λ (a : Collected). a.place) e, ap (λ (a : Collected). a.state) e) refl

@@ -1,14 +1,25 @@
 -- A collection, as one function from what it is lent to what it leaves.
-use Rattle.std.specs.Prelude.{ℕ, ◌≤◌, ◌≡◌, true, ◌&&◌, List, ◌++◌, length, drop, replicate, leb}
+use Rattle.std.specs.Prelude.{ℕ, ◌≤◌, ◌≡◌, true, ◌&&◌, List, ◌++◌, length, drop, replicate, leb, Result, Ok, Err}
 use Rattle.layout.specs.Intervals.{shown}
 use Rattle.layout.specs.Limits.{max_roots, within, suits, map_words, stack_words, list_words}
-use Rattle.layout.specs.Refusal.{unless}
+use Rattle.layout.specs.Refusal.{unless, number}
 use Rattle.layout.specs.declared.State.{State}
 use Rattle.runs.specs.Runs.{free_list}
 use Rattle.marking.specs.Marking.{Marking, Outcome, going, done, refused, collection}
-use Rattle.collector.specs.declared.Collected.{Collected}
+use Rattle.collector.specs.declared.Collection.{Collection}
+use Rattle.collector.specs.declared.Refused.{Refused}
 
--- What a collection answers, and what stands in map, stack and list afterwards.
+-- What a collection answers: the refusal's number or 0, and the reference that it names; objects marked, live words, references read, peak; and the state.
+pub record Collected : Type 0 where
+  pub code : ℕ
+  pub place : ℕ
+  pub objects : ℕ
+  pub live : ℕ
+  pub references : ℕ
+  pub peak : ℕ
+  pub state : State
+
+-- The answer, and what stands in map, stack and list afterwards.
 pub record Left : Type 0 where
   pub answer : Collected
   pub map : List ℕ
@@ -22,6 +33,11 @@ left answer map stack list = record { answer = answer; map = map; stack = stack;
 -- A refused collection has its number, the reference that it names, a state, and 0 for every count.
 abbrev pub collect_refused : ℕ → ℕ → State → Collected
 collect_refused code place state = record { code = code; place = place; objects = 0; live = 0; references = 0; peak = 0; state = state }
+
+-- The answer in these numbers.
+abbrev pub collect_told : Result Collection Refused → Collected
+collect_told (Ok c) = record { code = 0; place = 0; objects = c.objects; live = c.live; references = c.references; peak = c.peak; state = c.state }
+collect_told (Err r) = collect_refused (number r.fault.refusal) r.fault.place r.state
 
 -- The needed parts after marking is done: the map, a clear stack, and the free list with its count.
 abbrev pub settled : List ℕ → ℕ → Marking → Left

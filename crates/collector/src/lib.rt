@@ -2,19 +2,17 @@
 #![tactic(auto)]
 
 ghost use Rattle.std.specs.Prelude.{◌≡◌};
-ghost use Rattle.collector.specs.Collect.{left, collect_refused, collects_in, collects, Parts};
+ghost use Rattle.collector.specs.Collect.{left, collect_told, collects_in, collects, Parts};
 
-use layout::{Rooms, State, parts};
-use machine::Ended;
+use layout::{Refusal, State, parts};
+use machine::Fault;
 
 // The most roots that a collection is lent.
 const MAX_ROOTS: usize = 65536;
 
-// What a collection answers: the refusal's number or 0, and the reference that it names; objects marked, live words, references read, peak; and the state.
+// What a collection finds: objects marked, live words, references read, peak; and the state.
 #[derive(Clone, Copy)]
-pub struct Collected {
-    pub code: u32,
-    pub place: usize,
+pub struct Collection {
     pub objects: usize,
     pub live: usize,
     pub references: usize,
@@ -22,8 +20,25 @@ pub struct Collected {
     pub state: State,
 }
 
-// Marks from the roots in the fixed order, and leaves map and list with a clear stack, or refuses by number. The old content
-// of all three is not looked at.
+// Why a collection refuses, the reference that it names, or 0, and the state.
+#[derive(Clone, Copy)]
+pub struct Refused {
+    pub fault: Fault,
+    pub state: State,
+}
+
+impl Refused {
+    // A refusal before any reference is met.
+    fn early(refusal: Refusal, state: State) -> Refused
+        ensures { result ≡ record { fault = record { refusal = refusal; place = 0 }; state = state } }
+    {
+        let fault = Fault { refusal, place: 0 };
+        Refused { fault, state }
+    }
+}
+
+// Marks from the roots in the fixed order, and leaves map and list with a clear stack, or refuses. The old content of all three is
+// not looked at.
 pub fn collect(
     state: State,
     heap: &[u32],
@@ -31,24 +46,24 @@ pub fn collect(
     map: &mut [u32],
     stack: &mut [u32],
     list: &mut [u32],
-) -> Collected
-    ensures { left result map.new stack.new list.new ≡ collects state heap.now roots.now map.old stack.old list.old }
+) -> Result<Collection, Refused>
+    ensures { left (collect_told result) map.new stack.new list.new ≡ collects state heap.now roots.now map.old stack.old list.old }
 {
-    let words = state.words;
-    let keep = state.keep;
-    let rooms = Rooms::of(words, keep);
+    let rooms = state
+        .rooms(heap)
+        .map_err(|refusal| Refused::early(refusal, state))?;
+    if MAX_ROOTS < roots.len() {
+        return Err(Refused::early(Refusal::Limits, state));
+    }
     let m = rooms.map;
     let a = rooms.stack;
     let n = rooms.list;
-    if !((0 < m) & (heap.len() == words) & (roots.len() <= MAX_ROOTS)) {
-        return refused(1, 0, state);
-    }
     if !((m <= map.len()) & (a <= stack.len()) & (n <= list.len())) {
-        return refused(2, 0, state);
+        return Err(Refused::early(Refusal::Room, state));
     }
     collect_in(
         heap,
-        keep,
+        state.keep,
         roots,
         &mut map[..m],
         &mut stack[..a],
@@ -64,9 +79,9 @@ fn collect_in(
     map: &mut [u32],
     stack: &mut [u32],
     list: &mut [u32],
-) -> Collected
+) -> Result<Collection, Refused>
     requires { Parts heap.now keep roots.now map.old stack.old list.old }
-    ensures { left result map.new stack.new list.new ≡ collects_in heap.now keep roots.now }
+    ensures { left (collect_told result) map.new stack.new list.new ≡ collects_in heap.now keep roots.now }
 {
     let words = heap.len();
     parts::clear(map);
@@ -74,9 +89,7 @@ fn collect_in(
     let end = machine::run(heap, keep, roots, map, stack, list, count);
     parts::clear(stack);
     match end {
-        Ended::Done(p) => Collected {
-            code: 0,
-            place: 0,
+        Ok(p) => Ok(Collection {
             objects: p.objects,
             live: p.live,
             references: p.references,
@@ -86,27 +99,13 @@ fn collect_in(
                 keep,
                 count: p.count,
             },
-        },
-        Ended::Refused(code, place) => {
+        }),
+        Err(fault) => {
             parts::clear(map);
             parts::clear(list);
             let count = 0;
-            refused(code, place, State { words, keep, count })
+            let state = State { words, keep, count };
+            Err(Refused { fault, state })
         }
-    }
-}
-
-// What a refusal answers: its number, the reference that it names, the state, and 0 for every count.
-fn refused(code: u32, place: usize, state: State) -> Collected
-    ensures { result ≡ collect_refused code place state }
-{
-    Collected {
-        code,
-        place,
-        objects: 0,
-        live: 0,
-        references: 0,
-        peak: 0,
-        state,
     }
 }
