@@ -1,5 +1,5 @@
 -- How a call refuses.
-use Rattle.std.specs.Prelude.{ℕ, Bool, cond}
+use Rattle.std.specs.Prelude.{ℕ, Bool, cond, Result, Ok, Err}
 use Rattle.layout.specs.declared.refusal.Refusal.{Refusal}
 use Rattle.layout.specs.declared.refusal.Refusal.TheVariants.{Limits, Room, List, Address, Header, Overlap, Size, Full, Object, Field, Target, Text}
 
@@ -21,3 +21,8 @@ number Object = 9
 number Field = 10
 number Target = 11
 number Text = 12
+
+-- The number of an answer: 0, or that of its refusal.
+abbrev pub code_told : {A : Type 0} → Result A Refusal → ℕ
+code_told (Ok x) = 0
+code_told (Err refusal) = number refusal

@@ -21,8 +21,7 @@ use Rattle.freelist.specs.Search.{fitting}
 use Rattle.freelist.specs.SearchLaws.{fitting_in}
 use Rattle.split.specs.Relisted.{relisted}
 use Rattle.split.specs.SidesLaws.{in_read, front_sides, front_fits}
-use Rattle.store.specs.Allot.{Allotment, allotment, allot_refused, askable, asked_code, with_object, placed, allots_in, allots, Parts}
-use Rattle.store.specs.declared.allots.Allotted.{Allotted}
+use Rattle.store.specs.Allot.{Allotted, Allotment, allotment, allot_refused, askable, asked_code, with_object, placed, allots_in, allots, Parts}
 
 -- The ways out of the whole call, where the room figures are worked out.
 module _ (state : State) (heap map list : List ℕ) (s p : ℕ) {rooms : Rooms} (e : rooms ≡ rooms_of state.words state.keep) where

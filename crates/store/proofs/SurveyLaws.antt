@@ -13,8 +13,7 @@ use Rattle.freelist.specs.Figures.{figures_of}
 use Rattle.freelist.specs.Records.{records, valid_list}
 use Rattle.freelist.specs.RecordsLaws.{records_part, valid_ordered}
 use Rattle.freelist.specs.declared.figures.Figures.{Figures}
-use Rattle.store.specs.declared.surveys.Surveyed.{Surveyed}
-use Rattle.store.specs.Survey.{survey_refused, surveys}
+use Rattle.store.specs.Survey.{Surveyed, survey_refused, surveys}
 
 -- The ways out, where the room figures are worked out.
 module _ (state : State) (list : List ℕ) {rooms : Rooms} (e : rooms ≡ rooms_of state.words state.keep) where

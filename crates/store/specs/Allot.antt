@@ -1,18 +1,26 @@
 -- An allot, as one function from what it is lent to what it leaves.
-use Rattle.std.specs.Prelude.{ℕ, ◌+◌, ◌-◌, ◌≡◌, Bool, true, ◌&&◌, List, ◌∷◌, ◌++◌, length, take, drop, replicate, leb, ltb, eqb, Option, Some, None}
+use Rattle.std.specs.Prelude.{ℕ, ◌+◌, ◌-◌, ◌≡◌, Bool, true, ◌&&◌, List, ◌∷◌, ◌++◌, length, take, drop, replicate, leb, ltb, eqb, Option, Some, None, Result, Ok, Err}
 use Rattle.words.specs.Header.{header_word}
 use Rattle.words.specs.Map.{set_bit}
 use Rattle.layout.specs.Limits.{suits, map_words, list_words}
-use Rattle.layout.specs.Refusal.{unless}
+use Rattle.layout.specs.Refusal.{unless, number}
+use Rattle.layout.specs.declared.refusal.Refusal.{Refusal}
 use Rattle.layout.specs.declared.Interval.{Interval}
 use Rattle.layout.specs.declared.State.{State}
 use Rattle.runs.specs.Lists.{interval_at, without_front}
 use Rattle.freelist.specs.Records.{records, valid_list}
 use Rattle.freelist.specs.Search.{fitting}
 use Rattle.split.specs.Relisted.{relisted}
-use Rattle.store.specs.declared.allots.Allotted.{Allotted}
+use Rattle.store.specs.declared.allots.NewObject.{NewObject}
+use Rattle.store.specs.declared.allots.Refused.{Refused}
 
--- What an allot answers, and what stands in heap, map and list afterwards.
+-- What an allot answers: the refusal's number or 0, the new object's address, and the state.
+pub record Allotted : Type 0 where
+  pub code : ℕ
+  pub address : ℕ
+  pub state : State
+
+-- The answer, and what stands in heap, map and list afterwards.
 pub record Allotment : Type 0 where
   pub answer : Allotted
   pub heap : List ℕ
@@ -26,6 +34,16 @@ allotment answer heap map list = record { answer = answer; heap = heap; map = ma
 -- A refused allot has its number, no address, and the state that it got.
 abbrev pub allot_refused : ℕ → State → Allotted
 allot_refused code state = record { code = code; address = 0; state = state }
+
+-- The answer in these numbers.
+abbrev pub allot_told : Result NewObject Refused → Allotted
+allot_told (Ok x) = record { code = 0; address = x.address; state = x.state }
+allot_told (Err r) = allot_refused (number r.refusal) r.state
+
+-- The same of an answer whose refusal goes with a state.
+abbrev pub allotted : State → Result NewObject Refusal → Allotted
+allotted state (Ok x) = record { code = 0; address = x.address; state = x.state }
+allotted state (Err refusal) = allot_refused (number refusal) state
 
 -- An object of s words with p references may be asked for, where t is the keep length.
 abbrev pub askable : ℕ → ℕ → ℕ → Bool

@@ -1,11 +1,21 @@
 -- A read and a write, each as one function from what it is lent to what it leaves.
-use Rattle.std.specs.Prelude.{ℕ, ◌+◌, ◌-◌, Bool, ◌||◌, List, length, get_or, set, leb, ltb, eqb}
+use Rattle.std.specs.Prelude.{ℕ, ◌+◌, ◌-◌, Bool, ◌||◌, List, length, get_or, set, leb, ltb, eqb, Result, Ok, Err}
 use Rattle.words.specs.Header.{size_at, refs_at, well_formed}
 use Rattle.words.specs.Map.{is_start}
 use Rattle.layout.specs.Limits.{suits, map_words}
-use Rattle.layout.specs.Refusal.{unless}
+use Rattle.layout.specs.Refusal.{unless, number}
+use Rattle.layout.specs.declared.refusal.Refusal.{Refusal}
 use Rattle.layout.specs.declared.State.{State}
-use Rattle.store.specs.declared.fields.Reading.{Reading}
+
+-- What a read answers: the refusal's number or 0, and the field's word.
+pub record Reading : Type 0 where
+  pub code : ℕ
+  pub value : ℕ
+
+-- The answer in these numbers.
+abbrev pub read_told : Result ℕ Refusal → Reading
+read_told (Ok value) = record { code = 0; value = value }
+read_told (Err refusal) = record { code = number refusal; value = 0 }
 
 -- The number with which field k of what stands at a is refused, or 0: no object starts there, its header is bad, or it has no such field.
 unfoldable pub object_code : List ℕ → ℕ → List ℕ → ℕ → ℕ → ℕ

@@ -5,6 +5,6 @@ mod allots;
 mod fields;
 mod surveys;
 
-pub use allots::{Allotted, allot};
-pub use fields::{Reading, read, write};
-pub use surveys::{Surveyed, survey};
+pub use allots::{NewObject, Refused, allot};
+pub use fields::{read, write};
+pub use surveys::survey;

@@ -1,27 +1,28 @@
 -- `read`: a field that is not refused lies in the heap.
-use native.Mathlib.Omega.{arith}
+use Rattle.std.proofs.Common.{rules, ◌≡◌, refl, ◌∙◌, arith}
+use Rattle.layout.specs.Refusal.{number}
+use Rattle.layout.specs.RefusalLaws.{number_some}
+use Rattle.store.specs.Fields.{read_told}
 use Rattle.store.proofs.FieldsLaws.{Field, field, read_refused, read_given}
 use Rattle.store.proofs.fields.read.Goals as goal
-use Rattle.store.proofs.fields.read.Goals.{Else-code-ne0}
+use Rattle.store.proofs.fields.read.Goals.{In_ok-word}
 
 -- The field can be had.
-known : (c : Else-code-ne0) → let t = c.args in Field t.heap.now t.map.now t.a t.k
-known c = let t = c.args in field t.state t.heap.now t.map.now t.a t.k c.field_code-code.ensures c.if-code-ne0.false
+known : (c : In_ok-word) → let t = c.args in Field t.heap.now t.map.now t.a t.k
+known c = let t = c.args in field t.state t.heap.now t.map.now t.a t.k c.in_ok-word.ensures.code refl
 
-pub returns-then-code-ne0 : goal.returns-then-code-ne0
-returns-then-code-ne0 c = let t = c.args in read_refused t.state t.heap.now t.map.now t.a t.k c.field_code-code.ensures c.if-code-ne0.true
+pub returns-in_err-word : goal.returns-in_err-word
+returns-in_err-word c =
+    let t = c.args in
+    let refusal = c.in_err-word.field-0.0 in
+    let told : read_told c.from_residual.result ≡ record { code = number refusal; value = 0 } = search rules in
+    told ∙ read_refused t.state t.heap.now t.map.now t.a t.k c.in_err-word.ensures.code (λ none. omega (arith, number_some refusal))
 
-pub overflow_add-value : goal.overflow_add-value
-overflow_add-value c = omega (arith, known c)
+pub offset_bounds-heap-word : goal.offset_bounds-heap-word
+offset_bounds-heap-word c = omega (arith, known c, c.in_ok-word.ensures.word)
 
-pub overflow_add-value-2 : goal.overflow_add-value-2
-overflow_add-value-2 c = omega (arith, known c)
-
-pub offset_bounds-heap-a : goal.offset_bounds-heap-a
-offset_bounds-heap-a c = omega (arith, known c)
-
-pub bounds-heap-a : goal.bounds-heap-a
-bounds-heap-a c = (known (goal.at.bounds-heap-a c).Else-code-ne0).there
+pub bounds-heap-word : goal.bounds-heap-word
+bounds-heap-word c = rw c.in_ok-word.ensures.word (known (goal.at.bounds-heap-word c).In_ok-word).there
 
 pub returns : goal.returns
-returns c = let t = c.args in read_given t.state t.heap.now t.map.now t.a t.k c.field_code-code.ensures c.if-code-ne0.false
+returns c = let t = c.args in rw c.in_ok-word.ensures.word (read_given t.state t.heap.now t.map.now t.a t.k c.in_ok-word.ensures.code refl)

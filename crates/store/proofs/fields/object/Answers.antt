@@ -8,8 +8,8 @@ use Rattle.words.specs.Header.{well_formed}
 use Rattle.words.proofs.MapLaws.{start}
 use Rattle.words.specs.Map.{is_start}
 use Rattle.store.proofs.FieldsLaws.{no_start, bad_header, no_field, has_field}
-use Rattle.store.proofs.fields.object_code.Goals as goal
-use Rattle.store.proofs.fields.object_code.Goals.{Else-not-is_formed, Else-not-is_start}
+use Rattle.store.proofs.fields.object.Goals as goal
+use Rattle.store.proofs.fields.object.Goals.{Else-not-is_formed, Else-not-is_start}
 
 -- An object starts at a.
 starts : (c : Else-not-is_start) → let t = c.args in is_start (length t.heap.now) t.map.now t.a ≡ true

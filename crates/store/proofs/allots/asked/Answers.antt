@@ -1,6 +1,6 @@
 -- `asked_code`: its tests, in their order, are those of `asked_code`.
 use Rattle.store.proofs.AllotLaws.{asked_list, asked_numbers, asked_none}
-use Rattle.store.proofs.allots.asked_code.Goals as goal
+use Rattle.store.proofs.allots.asked.Goals as goal
 
 pub returns-then-not-are_valid : goal.returns-then-not-are_valid
 returns-then-not-are_valid c = let t = c.args in asked_list t.words t.keep t.count t.list.now t.s t.p c.are_valid.ensures c.if-not-are_valid.true
