@@ -4,10 +4,8 @@ use Rattle.layout.specs.Refusal.{unless}
 use Rattle.layout.specs.SetUp.{Prepared, sets_up}
 use Rattle.collector.specs.Collect.{Left, collects}
 use Rattle.store.specs.Allot.{Allotment, allots}
-use Rattle.store.specs.Fields.{reads, Written, written, writes}
-use Rattle.store.specs.Survey.{surveys}
-use Rattle.store.specs.declared.fields.Reading.{Reading}
-use Rattle.store.specs.declared.surveys.Surveyed.{Surveyed}
+use Rattle.store.specs.Fields.{Reading, reads, Written, written, writes}
+use Rattle.store.specs.Survey.{Surveyed, surveys}
 use Rattle.firmware.specs.Lent.{state_room, state_in, state_words, collected_words, figures_words, fronted}
 
 -- What `hx_set_up` answers, and what stands in map, list and state afterwards.

@@ -3,17 +3,12 @@ use Rattle.std.specs.Prelude.{ℕ, ◌≤◌, ◌<◌, ◌≡◌, true, false, L
 use Rattle.std.proofs.Math.Path.{refl}
 use Rattle.std.proofs.Common.{le-leb}
 use Rattle.std.proofs.lemmas.Bool.{lt-leb}
-use Rattle.layout.specs.SetUp.{prepared, sets_up}
-use Rattle.layout.specs.declared.SetUp.{SetUp}
+use Rattle.layout.specs.SetUp.{SetUp, prepared, sets_up}
 use Rattle.layout.specs.declared.State.{State}
-use Rattle.collector.specs.Collect.{left, collects}
-use Rattle.collector.specs.declared.Collected.{Collected}
-use Rattle.store.specs.Allot.{allotment, allots}
-use Rattle.store.specs.Fields.{reads, written, writes}
-use Rattle.store.specs.Survey.{surveys}
-use Rattle.store.specs.declared.allots.Allotted.{Allotted}
-use Rattle.store.specs.declared.fields.Reading.{Reading}
-use Rattle.store.specs.declared.surveys.Surveyed.{Surveyed}
+use Rattle.collector.specs.Collect.{Collected, left, collects}
+use Rattle.store.specs.Allot.{Allotted, allotment, allots}
+use Rattle.store.specs.Fields.{Reading, reads, written, writes}
+use Rattle.store.specs.Survey.{Surveyed, surveys}
 use Rattle.firmware.specs.Lent.{state_room, state_in, state_words, collected_words, figures_words, fronted}
 use Rattle.firmware.specs.LentLaws.{Long}
 use Rattle.firmware.specs.Calls.{setting_up, hx_sets_up, collecting, hx_collects, allotting, hx_allots, telling, hx_reads, hx_writes, hx_surveys}

@@ -2,8 +2,8 @@
 use Rattle.layout.specs.declared.State.{State}
 use Rattle.marking.specs.Numbers.{Word}
 use Rattle.freelist.specs.declared.figures.Figures.{Figures}
-use Rattle.collector.specs.declared.Collected.{Collected}
-use Rattle.store.specs.declared.allots.Allotted.{Allotted}
+use Rattle.collector.specs.Collect.{Collected}
+use Rattle.store.specs.Allot.{Allotted}
 
 -- The numbers of a state stand in words.
 pub record StateFits (s : State) : Type 0 where

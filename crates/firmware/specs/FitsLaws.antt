@@ -7,9 +7,8 @@ use Rattle.std.proofs.Math.Bool.{and-eq-true_iff}
 use Rattle.layout.specs.Limits.{max_roots, within, suits, map_words, stack_words, list_words}
 use Rattle.layout.specs.LimitsLaws.{Limits, limits, suits_limits, two_fit, list_small}
 use Rattle.layout.specs.RefusalLaws.{by_test}
-use Rattle.layout.specs.SetUp.{Prepared, prepared, first_list, sets_up}
+use Rattle.layout.specs.SetUp.{SetUp, Prepared, prepared, first_list, sets_up}
 use Rattle.layout.specs.declared.Interval.{Interval}
-use Rattle.layout.specs.declared.SetUp.{SetUp}
 use Rattle.layout.specs.declared.State.{State}
 use Rattle.runs.specs.Lists.{listed}
 use Rattle.runs.proofs.SumLaws.{ordered_listed}
@@ -21,13 +20,10 @@ use Rattle.freelist.specs.FiguresLaws.{largest_listed}
 use Rattle.freelist.specs.Records.{records, valid_list}
 use Rattle.freelist.specs.RecordsLaws.{valid_ordered}
 use Rattle.freelist.specs.Search.{fitting}
-use Rattle.collector.specs.Collect.{Left, left, collect_refused, settled, settles, collects_in, collects}
-use Rattle.collector.specs.declared.Collected.{Collected}
-use Rattle.store.specs.Allot.{Allotment, allotment, allot_refused, asked_code, placed, allots_in, allots, Parts}
+use Rattle.collector.specs.Collect.{Collected, Left, left, collect_refused, settled, settles, collects_in, collects}
+use Rattle.store.specs.Allot.{Allotted, Allotment, allotment, allot_refused, asked_code, placed, allots_in, allots, Parts}
 use Rattle.store.proofs.AllotLaws.{Chosen, chosen, ends, front_room}
-use Rattle.store.specs.Survey.{surveys}
-use Rattle.store.specs.declared.allots.Allotted.{Allotted}
-use Rattle.store.specs.declared.surveys.Surveyed.{Surveyed}
+use Rattle.store.specs.Survey.{Surveyed, surveys}
 use Rattle.firmware.specs.Fits.{StateFits, CollectedFits, AllottedFits, FiguresFit}
 
 -- The state that set-up hands out.

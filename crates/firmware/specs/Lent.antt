@@ -2,7 +2,7 @@
 use Rattle.std.specs.Prelude.{ℕ, List, [], ◌∷◌, ◌++◌, length, get_or, drop}
 use Rattle.layout.specs.declared.State.{State}
 use Rattle.freelist.specs.declared.figures.Figures.{Figures}
-use Rattle.collector.specs.declared.Collected.{Collected}
+use Rattle.collector.specs.Collect.{Collected}
 
 -- How many words a state has.
 abbrev pub state_room : ℕ

@@ -3,7 +3,7 @@ ghost use Rattle.std.specs.Prelude.{◌≡◌};
 ghost use Rattle.store.specs.Fields.{written};
 ghost use Rattle.firmware.specs.Calls.{setting_up, hx_sets_up, collecting, hx_collects, allotting, hx_allots, telling, hx_reads, hx_writes, hx_surveys};
 
-use crate::lent;
+use crate::{lent, told};
 use layout::State;
 
 // Sets a heap up with no object on it, and hands out its state.
@@ -19,9 +19,9 @@ pub fn hx_set_up(
     if state.len() < lent::STATE_ROOM {
         return 2;
     }
-    let fresh = State::set_up(heap, keep as usize, map, list);
-    lent::put_state(state, fresh.state);
-    fresh.code
+    let (code, fresh) = told::set_up(State::set_up(heap, keep as usize, map, list));
+    lent::put_state(state, fresh);
+    code
 }
 
 // Marks from the roots, and leaves map and list with a clear stack.
@@ -39,10 +39,12 @@ pub fn hx_collect(
     if !((lent::STATE_ROOM <= state.len()) & (5 <= answer.len())) {
         return 2;
     }
-    let found = collector::collect(lent::state_in(state), heap, roots, map, stack, list);
-    lent::put_state(state, found.state);
-    lent::put_collected(answer, found);
-    found.code
+    let was = lent::state_in(state);
+    let found = collector::collect(was, heap, roots, map, stack, list);
+    let (code, after, words) = told::collect(found);
+    lent::put_state(state, after);
+    lent::put(answer, words);
+    code
 }
 
 // A new object of so many words, the first of its fields references.
@@ -62,9 +64,10 @@ pub fn hx_allot(
     }
     let was = lent::state_in(state);
     let made = store::allot(was, heap, map, list, size as usize, references as usize);
-    lent::put_state(state, made.state);
-    answer[0] = made.address as u32;
-    made.code
+    let (code, after, at) = told::allot(made);
+    lent::put_state(state, after);
+    lent::put(answer, [at]);
+    code
 }
 
 // The word in a field of an object.
@@ -83,8 +86,9 @@ pub fn hx_read(
     }
     let was = lent::state_in(state);
     let got = store::read(was, heap, map, address as usize, field as usize);
-    answer[0] = got.value;
-    got.code
+    let (code, value) = told::read(got);
+    lent::put(answer, [value]);
+    code
 }
 
 // Stores a word in a field of an object.
@@ -102,7 +106,8 @@ pub fn hx_write(
         return 2;
     }
     let was = lent::state_in(state);
-    store::write(was, heap, map, address as usize, field as usize, value)
+    let done = store::write(was, heap, map, address as usize, field as usize, value);
+    told::code(done)
 }
 
 // Listed words, the largest interval and the fragment figure.
@@ -112,7 +117,9 @@ pub fn hx_survey(state: &[u32], list: &[u32], answer: &mut [u32]) -> u32
     if !((lent::STATE_ROOM <= state.len()) & (3 <= answer.len())) {
         return 2;
     }
-    let seen = store::survey(lent::state_in(state), list);
-    lent::put_figures(answer, seen.figures);
-    seen.code
+    let was = lent::state_in(state);
+    let seen = store::survey(was, list);
+    let (code, words) = told::survey(seen);
+    lent::put(answer, words);
+    code
 }

@@ -1,10 +1,8 @@
 // States and answers in lent words.
 ghost use Rattle.std.specs.Prelude.{◌≡◌, ◌≤◌, length};
-ghost use Rattle.firmware.specs.Lent.{state_room, state_in, state_words, collected_words, figures_words, fronted};
-ghost use Rattle.firmware.specs.Fits.{StateFits, CollectedFits, FiguresFit};
+ghost use Rattle.firmware.specs.Lent.{state_room, state_in, state_words, fronted};
+ghost use Rattle.firmware.specs.Fits.{StateFits};
 
-use collector::Collected;
-use freelist::Figures;
 use layout::State;
 use words::wide;
 
@@ -24,34 +22,21 @@ pub(crate) fn state_in(words: &[u32]) -> State
     }
 }
 
+// Stores words at the front of a buffer.
+pub(crate) fn put<const N: usize>(buffer: &mut [u32], words: [u32; N])
+    requires { N ≤ length buffer.old }
+    ensures { buffer.new ≡ fronted words.entry buffer.old }
+{
+    buffer[..N].copy_from_slice(&words);
+}
+
 // Stores a state at the front of a buffer.
 pub(crate) fn put_state(buffer: &mut [u32], state: State)
     requires { (state_room ≤ length buffer.old) × StateFits state }
     ensures { buffer.new ≡ fronted (state_words state) buffer.old }
 {
-    buffer[0] = state.words as u32;
-    buffer[1] = state.keep as u32;
-    buffer[2] = state.count as u32;
-}
-
-// Stores a collection's answer at the front of a buffer.
-pub(crate) fn put_collected(buffer: &mut [u32], found: Collected)
-    requires { (5 ≤ length buffer.old) × CollectedFits found }
-    ensures { buffer.new ≡ fronted (collected_words found) buffer.old }
-{
-    buffer[0] = found.place as u32;
-    buffer[1] = found.objects as u32;
-    buffer[2] = found.live as u32;
-    buffer[3] = found.references as u32;
-    buffer[4] = found.peak as u32;
-}
-
-// Stores a survey's figures at the front of a buffer.
-pub(crate) fn put_figures(buffer: &mut [u32], figures: Figures)
-    requires { (3 ≤ length buffer.old) × FiguresFit figures }
-    ensures { buffer.new ≡ fronted (figures_words figures) buffer.old }
-{
-    buffer[0] = figures.listed as u32;
-    buffer[1] = figures.largest as u32;
-    buffer[2] = figures.fragment as u32;
+    put(
+        buffer,
+        [state.words as u32, state.keep as u32, state.count as u32],
+    );
 }

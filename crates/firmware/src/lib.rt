@@ -4,6 +4,7 @@
 
 mod calls;
 mod lent;
+mod told;
 
 ghost use Rattle.std.specs.Prelude.{◌≡◌, false};
 ghost use Rattle.layout.specs.Limits.{within, rooms_of};

@@ -1,11 +1,11 @@
 -- `hx_allot`: the allot's own outcome, with its state and the address in words.
+use Rattle.std.proofs.Common.{lit<}
 use Prim.Native.Nat.{◌≤◌}
-use mathlib.Core.Path.{refl}
-use mathlib.Core.List.{[]}
 use lib.ListN.{length}
+use Rattle.store.specs.Allot.{allot_told}
 use Rattle.firmware.specs.Lent.{state_room}
 use Rattle.firmware.specs.Fits.{AllottedFits}
-use Rattle.firmware.specs.LentLaws.{front_next, both_long}
+use Rattle.firmware.specs.LentLaws.{both_long}
 use Rattle.firmware.specs.FitsLaws.{allot_fits}
 use Rattle.firmware.specs.CallsLaws.{allot_short, allot_crosses}
 use Rattle.firmware.proofs.calls.hx_allot.Goals as goal
@@ -16,7 +16,7 @@ long : (c : Else-not-state-answer) → let t = c.args in (state_room ≤ length 
 long c = let t = c.args in both_long t.state.now t.answer.now 1 c.if-not-state-answer.false
 
 -- The numbers of the answer stand in words.
-small : (c : After-allot-made) → AllottedFits c.allot-made.result
+small : (c : After-allot-made) → AllottedFits (allot_told c.allot-made.result)
 small c =
     let t = c.args in
     allot_fits t.heap.now t.map.now t.list.now t.size t.references c.state_in-was.ensures.fits c.allot-made.ensures
@@ -29,17 +29,19 @@ returns-then-not-state-answer c =
 pub state_in-was-requires : goal.state_in-was-requires
 state_in-was-requires c = (long c).0
 
+pub allot-code-requires : goal.allot-code-requires
+allot-code-requires c = small (goal.at.allot-code-requires c).After-allot-made
+
 pub put_state-requires : goal.put_state-requires
-put_state-requires c = ((long (goal.at.put_state-requires c).Else-not-state-answer).0, (small (goal.at.put_state-requires c).After-allot-made).state)
+put_state-requires c =
+    let at = goal.at.put_state-requires c in
+    ((long at.Else-not-state-answer).0, rw c.allot-code.ensures.state (small at.After-allot-made).state)
 
-pub overflow_cast-answer : goal.overflow_cast-answer
-overflow_cast-answer c = record { fits = (small (goal.at.overflow_cast-answer c).After-allot-made).address }
-
-pub bounds-answer-0 : goal.bounds-answer-0
-bounds-answer-0 c = (long (goal.at.bounds-answer-0 c).Else-not-state-answer).1
+pub put-requires : goal.put-requires
+put-requires c = (lit< tt, (long (goal.at.put-requires c).Else-not-state-answer).1)
 
 pub returns : goal.returns
 returns c =
     let t = c.args in
-    let stored = front_next [] c.allot-made.result.address t.answer.now refl (long (goal.at.returns c).Else-not-state-answer).1 in
-    allot_crosses t.state.now t.heap.now t.map.now t.list.now t.size t.references t.answer.now c.if-not-state-answer.false c.state_in-was.ensures.value c.allot-made.ensures c.put_state.ensures stored
+    let got = c.allot-code.ensures in
+    rw got.code (allot_crosses t.state.now t.heap.now t.map.now t.list.now t.size t.references t.answer.now c.if-not-state-answer.false c.state_in-was.ensures.value c.allot-made.ensures (rw (← got.state) c.put_state.ensures) (rw (← got.address) c.put.ensures))

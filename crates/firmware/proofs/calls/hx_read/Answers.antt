@@ -1,10 +1,9 @@
 -- `hx_read`: the read's own answer, with the value in a word.
+use Rattle.std.proofs.Common.{lit<}
 use Prim.Native.Nat.{◌≤◌}
-use mathlib.Core.Path.{refl}
-use mathlib.Core.List.{[]}
 use lib.ListN.{length}
 use Rattle.firmware.specs.Lent.{state_room}
-use Rattle.firmware.specs.LentLaws.{front_next, both_long}
+use Rattle.firmware.specs.LentLaws.{both_long}
 use Rattle.firmware.specs.CallsLaws.{read_short, read_crosses}
 use Rattle.firmware.proofs.calls.hx_read.Goals as goal
 use Rattle.firmware.proofs.calls.hx_read.Goals.{Else-not-state-answer}
@@ -21,11 +20,11 @@ returns-then-not-state-answer c =
 pub state_in-was-requires : goal.state_in-was-requires
 state_in-was-requires c = (long c).0
 
-pub bounds-answer-0 : goal.bounds-answer-0
-bounds-answer-0 c = (long (goal.at.bounds-answer-0 c).Else-not-state-answer).1
+pub put-requires : goal.put-requires
+put-requires c = (lit< tt, (long (goal.at.put-requires c).Else-not-state-answer).1)
 
 pub returns : goal.returns
 returns c =
     let t = c.args in
-    let stored = front_next [] c.read-got.result.value t.answer.now refl (long (goal.at.returns c).Else-not-state-answer).1 in
-    read_crosses t.state.now t.heap.now t.map.now t.address t.field t.answer.now c.if-not-state-answer.false c.state_in-was.ensures.value c.read-got.ensures stored
+    let got = c.read-code.ensures in
+    rw got.code (read_crosses t.state.now t.heap.now t.map.now t.address t.field t.answer.now c.if-not-state-answer.false c.state_in-was.ensures.value c.read-got.ensures (rw (← got.value) c.put.ensures))
