@@ -1,38 +1,37 @@
--- Laws of places of bytes and of parts of a list of bytes.
-use Rattle.std.specs.Prelude.{ℕ, suc, ◌+◌, ◌-◌, ◌≤◌, ◌<◌, ◌≡◌, ◌≢◌, List, ◌∷◌, length, get_or, take}
-use Rattle.std.proofs.Common.{arith, add-one, drop-cons}
-use Rattle.std.proofs.Math.Nat.{sub-zero}
-use Rattle.std.proofs.Math.Seq.{take-length}
-use Rattle.std.proofs.lemmas.Bool.{eq-eqb, ne_eqb}
-use Rattle.image.specs.Bytes.{index_after, index_of, slice}
+-- Laws of places of bytes.
+use Rattle.std.specs.Prelude.{ℕ, ◌+◌, ◌≤◌, ◌<◌, ◌≡◌, refl, Bool, true, false, cond, List, length, ltb, eqb, Some, None}
+use Rattle.std.specs.List.{position, position_or_len}
+use Rattle.std.proofs.Common.{sym, ◌∙◌, arith, ltb-true, ltb-false}
+use Rattle.std.proofs.lemmas.List.Recursion.{is_position_or_len}
+use Rattle.image.specs.Bytes.{index_after, index_of}
 
--- The part up to place n is the front of n bytes.
-pub slice_front : (n : ℕ) (xs : List ℕ) → slice 0 n xs ≡ take n xs
-unfolding slice
-slice_front n xs = rw (sub-zero n)
+-- A place is counted on from the first byte.
+index_counts : (test : Bool) (n : ℕ) → index_after test n ≡ cond test 0 (1 + n)
+unfolding index_after
+index_counts true n = refl
+index_counts false n = omega arith
 
--- The part up to the end is the whole list.
-pub slice_whole : (xs : List ℕ) → slice 0 (length xs) xs ≡ xs
-slice_whole xs = rw (slice_front (length xs) xs, take-length xs)
+-- The place of a byte is where a search for it ends.
+index_position : (b : ℕ) (xs : List ℕ) → index_of b xs ≡ position_or_len (λ x. eqb x b) xs
+unfolding index_of
+index_position b xs = is_position_or_len (index_of b) (λ x. eqb x b) refl (λ x xs. index_counts (eqb x b) (index_of b xs)) xs
 
--- No byte is found in a part without any.
-pub index_none : (b i j : ℕ) (xs : List ℕ) → j ≤ i → index_of b (slice i j xs) ≡ 0
-unfolding slice index_of
-index_none b i j xs le = let none : j - i ≡ 0 = omega arith in rw none
+-- Where a test chooses a number, it holds.
+chosen : (test : Bool) (n : ℕ) {i : ℕ} → cond test (Some n) None ≡ Some i → (test ≡ true) × (n ≡ i)
+chosen true n e = (refl, cc)
+chosen false n e = absurd (cc)
 
--- The first byte of a part.
-module _ (b i j : ℕ) (xs : List ℕ) (more : i < j) (inside : j ≤ length xs) where
-  -- It stands before the rest of the part.
-  slice_next : slice i j xs ≡ get_or xs i 0 ∷ slice (i + 1) j xs
-  unfolding slice
-  slice_next = let one : j - i ≡ suc (j - suc i) = omega arith in rw (add-one i, one, drop-cons xs i 0 (omega arith))
+-- Where it chooses none, it fails.
+not_chosen : (test : Bool) (n : ℕ) → cond test (Some n) None ≡ None → test ≡ false
+not_chosen true n e = absurd (cc)
+not_chosen false n e = refl
 
-  -- Where it is b, b is found there.
-  pub index_here : get_or xs i 0 ≡ b → index_of b (slice i j xs) ≡ 0
-  unfolding index_of index_after
-  index_here same = rw (slice_next, eq-eqb (get_or xs i 0) b same)
+-- A search that finds a byte has its place.
+pub place_found : (b : ℕ) (xs : List ℕ) {i : ℕ} → position (λ x. eqb x b) xs ≡ Some i → (i ≡ index_of b xs) × (i < length xs)
+place_found b xs e =
+    let found = chosen (ltb (position_or_len (λ x. eqb x b) xs) (length xs)) (position_or_len (λ x. eqb x b) xs) e in
+    (sym (index_position b xs ∙ found.1), omega (arith, found.1, ltb-true _ _ found.0))
 
-  -- Where it is another, b is looked for in the rest.
-  pub index_later : get_or xs i 0 ≢ b → index_of b (slice i j xs) ≡ suc (index_of b (slice (i + 1) j xs))
-  unfolding index_of index_after
-  index_later other = rw (slice_next, ne_eqb (get_or xs i 0) b other)
+-- One that finds none has gone to the end.
+pub place_missing : (b : ℕ) (xs : List ℕ) → position (λ x. eqb x b) xs ≡ None → length xs ≤ index_of b xs
+place_missing b xs e = omega (arith, index_position b xs, ltb-false _ _ (not_chosen (ltb (position_or_len (λ x. eqb x b) xs) (length xs)) (position_or_len (λ x. eqb x b) xs) e))

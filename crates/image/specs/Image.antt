@@ -1,14 +1,10 @@
 -- An image text: its lines in order, and what they stand for.
-use Rattle.std.specs.Prelude.{ℕ, ◌+◌, Bool, true, false, cond, not, ◌&&◌, List, [], ◌∷◌, ◌++◌, length, drop, set, replicate, leb, ltb, eqb}
+use Rattle.std.specs.Prelude.{ℕ, ◌+◌, Bool, true, false, cond, not, ◌&&◌, List, [], ◌∷◌, ◌++◌, length, drop, set, replicate, leb, ltb, eqb, Option, Some, None}
 use Rattle.layout.specs.Limits.{max_keep}
 use Rattle.layout.specs.Refusal.{unless}
 use Rattle.image.specs.Ascii.{ascii}
 use Rattle.image.specs.Decimal.{decimal_of, pair_of}
 use Rattle.image.specs.Lines.{first_line, lines_of}
-use Rattle.image.specs.declared.decimals.Number.{Number}
-use Rattle.image.specs.declared.decimals.Number.TheVariants.{Is, Wrong}
-use Rattle.image.specs.declared.decimals.Pair.{Pair}
-use Rattle.image.specs.declared.decimals.Pair.TheVariants.{Are, NoPair}
 
 -- The most bytes of a text.
 abbrev pub max_text : ℕ
@@ -45,32 +41,32 @@ on_if true image = on image
 on_if false image = off
 
 -- `words` is the first line: the heap has so many words, all 0.
-abbrev pub takes_words : Image → Number → Taken
-takes_words image (Is n) =
+abbrev pub takes_words : Image → Option ℕ → Taken
+takes_words image (Some n) =
     on_if (eqb image.lines 0 && leb 1 n && leb n max_heap)
     (record { lines = 1; last = image.last; keep = image.keep; roots = image.roots; heap = replicate n 0 })
-takes_words image Wrong = off
+takes_words image None = off
 
 -- `keep` is the second line.
-abbrev pub takes_keep : Image → Number → Taken
-takes_keep image (Is n) =
+abbrev pub takes_keep : Image → Option ℕ → Taken
+takes_keep image (Some n) =
     on_if (eqb image.lines 1 && leb 1 n && leb n max_keep)
     (record { lines = 2; last = image.last; keep = n; roots = image.roots; heap = image.heap })
-takes_keep image Wrong = off
+takes_keep image None = off
 
 -- A `root` line stands behind these and before any `word` line, while there is room.
-abbrev pub takes_root : Image → Number → Taken
-takes_root image (Is n) =
+abbrev pub takes_root : Image → Option ℕ → Taken
+takes_root image (Some n) =
     on_if (leb 2 image.lines && eqb image.last 0 && ltb (length image.roots) max_image_roots)
     (record { lines = image.lines + 1; last = 0; keep = image.keep; roots = image.roots ++ n ∷ []; heap = image.heap })
-takes_root image Wrong = off
+takes_root image None = off
 
 -- A `word` line stands behind these; its address is above the last one and in the heap, and its value is not 0.
-abbrev pub takes_word : Image → Pair → Taken
-takes_word image (Are a v) =
+abbrev pub takes_word : Image → Option (ℕ × ℕ) → Taken
+takes_word image (Some (a, v)) =
     on_if (leb 2 image.lines && ltb image.last a && ltb a (length image.heap) && not (eqb v 0))
     (record { lines = image.lines + 1; last = a; keep = image.keep; roots = image.roots; heap = set image.heap a v })
-takes_word image NoPair = off
+takes_word image None = off
 
 -- A list of bytes starts with these.
 unfoldable pub starts : List ℕ → List ℕ → Bool

@@ -1,10 +1,13 @@
 -- Laws of the lines of a text.
-use Rattle.std.specs.Prelude.{ℕ, zero, suc, ◌-◌, ◌≤◌, ◌<◌, min, ◌≡◌, refl, ◌≢◌, Bool, true, false, cond, ◌&&◌, List, [], ◌∷◌, length, take, drop, leb, ltb, eqb}
-use Rattle.std.proofs.Common.{ap, arith, length-drop, take_all, take-take, length-take-le, ltb-true, lt-ltb, le-ltb, le-leb}
+use Rattle.std.specs.Prelude.{ℕ, zero, suc, ◌+◌, ◌-◌, ◌≤◌, ◌<◌, min, ◌≡◌, refl, ◌≢◌, Bool, true, false, cond, ◌&&◌, List, [], ◌∷◌, length, take, drop, leb, ltb, eqb, Option, Some, None}
+use Rattle.std.specs.Option.{unwrap_or}
+use Rattle.std.specs.List.{position}
+use Rattle.std.proofs.Common.{sym, ◌∙◌, ap, arith, length-drop, take_all, take-take, length-take-le, ltb-true, lt-ltb, le-ltb, le-leb}
 use Rattle.std.proofs.Math.Bool.{and-false, and-eq-true_iff}
 use Rattle.std.proofs.Math.Decide.{dec_le}
 use Rattle.std.proofs.lemmas.Bool.{lt-leb}
 use Rattle.image.specs.Bytes.{index_after, index_of}
+use Rattle.image.specs.BytesLaws.{place_found, place_missing}
 use Rattle.layout.specs.RefusalLaws.{by_test}
 use Rattle.image.specs.Lines.{max_line, first_line, before, lines_of}
 
@@ -42,6 +45,10 @@ line_either P text p q = by_test P (ltb (index_of 10 text) (length text) && leb 
 pub line_length : (text : List ℕ) → first_line text ≢ [] → length (first_line text) ≡ index_of 10 text
 line_length text = line_either (λ line. line ≢ [] → length line ≡ index_of 10 text) text (λ inside some. length-take-le _ text (omega arith)) (λ some. absurd (some refl))
 
+-- It is no longer than the text.
+pub line_short : (text : List ℕ) → length (first_line text) ≤ length text
+line_short text = line_either (λ line. length line ≤ length text) text (λ inside. omega (arith, length-take-le (index_of 10 text) text (omega arith))) (omega arith)
+
 -- That LF is in the text.
 pub line_inside : (text : List ℕ) → first_line text ≢ [] → index_of 10 text < length text
 line_inside text = line_either (λ line. line ≢ [] → index_of 10 text < length text) text (λ inside some. inside) (λ some. absurd (some refl))
@@ -55,8 +62,8 @@ line_front : (text : List ℕ) → take (length (first_line text)) text ≡ firs
 line_front text = line_either (λ line. take (length line) text ≡ line) text (λ inside. rw (length-take-le (index_of 10 text) text (omega arith))) refl
 
 -- The same at a place of a text, of the rest as the code cuts it.
-pub line_part : (text : List ℕ) (at : ℕ) {n : ℕ} → n ≡ length (first_line (take (length text - at) (drop at text))) → take n (take (length text - at) (drop at text)) ≡ first_line (drop at text)
-line_part text at e = rw (e, part_behind text at) (line_front (drop at text))
+pub line_part : (text : List ℕ) (at : ℕ) {rest : List ℕ} → rest ≡ take (length text - at) (drop at text) → {n : ℕ} → n ≡ length (first_line rest) → take n rest ≡ first_line (drop at text)
+line_part text at left e = rw (e, left, part_behind text at) (line_front (drop at text))
 
 -- The front of a text up to its first LF has the text's first line.
 pub line_alone : (text : List ℕ) → first_line (take (suc (index_of 10 text)) text) ≡ first_line text
@@ -89,11 +96,22 @@ lines_next (b ∷ c ∷ rest) some = byte_next b (c ∷ rest) (eqb b 10) (ap (be
 -- Looking for the LF up to here finds whether it comes in time.
 module _ (text : List ℕ) (to : ℕ) (far : to ≡ min (length text) (suc max_line)) where
   -- None is there, and no line.
-  pub end_missing : index_of 10 (take to text) ≡ to → length (first_line text) ≡ 0
+  end_missing : to ≤ index_of 10 (take to text) → length (first_line text) ≡ 0
   end_missing e = rw (line_missing text (λ inside. omega (arith, index_take 10 to text)))
 
   -- It is there, and ends the line.
-  pub end_found : index_of 10 (take to text) < to → length (first_line text) ≡ index_of 10 (take to text)
+  end_found : index_of 10 (take to text) < to → length (first_line text) ≡ index_of 10 (take to text)
   end_found h =
       let at : index_of 10 (take to text) ≡ index_of 10 text = omega (arith, index_take 10 to text) in
       rw (at, line_ended text (omega arith) (omega arith), length-take-le (index_of 10 text) text (omega arith))
+
+  -- What is found there is the line's length, and 0 where nothing is.
+  pub end_read : (found : Option ℕ) → position (λ b. eqb b 10) (take to text) ≡ found → unwrap_or found 0 ≡ length (first_line text)
+  end_read (Some end) e =
+      let place = place_found 10 (take to text) e in
+      place.0 ∙ sym (end_found (omega (arith, place.0, place.1, length-take-le to text (omega arith))))
+  end_read None e = sym (end_missing (omega (arith, place_missing 10 (take to text) e, length-take-le to text (omega arith))))
+
+-- A line and its LF are in what is left of a text, if there is some.
+pub line_behind : (text : List ℕ) (at : ℕ) → at < length text → at + (length (first_line (drop at text)) + 1) ≤ length text
+line_behind text at some = line_either (λ line. at + (length line + 1) ≤ length text) (drop at text) (λ inside. omega (arith, length-drop at text, length-take-le (index_of 10 (drop at text)) (drop at text) (omega arith))) (omega arith)

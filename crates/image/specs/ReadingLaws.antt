@@ -1,5 +1,5 @@
 -- Laws of reading a text line by line.
-use Rattle.std.specs.Prelude.{ℕ, suc, ◌+◌, ◌≤◌, ◌<◌, ◌≡◌, refl, ◌≢◌, Bool, true, false, ◌&&◌, List, [], length, drop, leb, eqb}
+use Rattle.std.specs.Prelude.{ℕ, suc, ◌+◌, ◌≤◌, ◌<◌, ◌≡◌, refl, ◌≢◌, Bool, true, false, ◌&&◌, List, [], length, drop, leb, eqb, Option, Some, None}
 use Rattle.std.proofs.Math.Path.{sym}
 use Rattle.std.proofs.Common.{◌∙◌, ap, subst, le_refl, le-add_left, arith, length-drop, drop_of_length-le, drop-drop}
 use Rattle.std.proofs.Math.Bool.{and-eq-true_iff}
@@ -11,15 +11,9 @@ use Rattle.image.specs.Ascii.{ascii}
 use Rattle.image.specs.Decimal.{decimal_of, pair_of}
 use Rattle.image.specs.Lines.{first_line, lines_of}
 use Rattle.image.specs.LinesLaws.{line_length, line_inside, line_alone, lines_next}
-use Rattle.image.specs.Image.{max_text, max_heap, max_image_roots, Image, Taken, on, off, on_if, takes_words, takes_keep, takes_root, takes_word, starts, takes_line, right, wrong, or_wrong, read_on, text_of}
-use Rattle.image.specs.SoFar.{shows, shows_next, Small, SmallNext, LineFits}
-use Rattle.image.specs.declared.decimals.Number.{Number}
-use Rattle.image.specs.declared.decimals.Number.TheVariants.{Is, Wrong}
-use Rattle.image.specs.declared.decimals.Pair.{Pair}
-use Rattle.image.specs.declared.decimals.Pair.TheVariants.{Are, NoPair}
-use Rattle.image.specs.declared.reading.SoFar.{SoFar}
-use Rattle.image.specs.declared.reading.Next.{Next}
-use Rattle.image.specs.declared.reading.Next.TheVariants.{On, Off}
+use Rattle.image.specs.Image.{max_text, max_heap, max_image_roots, Image, blank, Taken, on, off, on_if, takes_words, takes_keep, takes_root, takes_word, starts, takes_line, right, wrong, or_wrong, read_on, text_of}
+use Rattle.image.specs.SoFar.{shows, shows_next, LineFits}
+use Rattle.image.specs.declared.so_far.SoFar.{SoFar}
 
 -- P holds of the image that a line has made, if the line was right.
 abbrev pub IfOn : (Image → Type 0) → Taken → Type 0
@@ -33,8 +27,8 @@ if_tested P true next k = k refl
 if_tested P false next k = tt
 
 -- It is so of any line where it is so of each kind.
-pub if_line : (P : Image → Type 0) (image : Image) (line : List ℕ) → ((n : Number) → IfOn P (takes_words image n)) → ((n : Number) → IfOn P (takes_keep image n)) → ((n : Number) → IfOn P (takes_root image n))
-    → ((p : Pair) → IfOn P (takes_word image p)) → IfOn P (takes_line image line)
+pub if_line : (P : Image → Type 0) (image : Image) (line : List ℕ) → ((n : Option ℕ) → IfOn P (takes_words image n)) → ((n : Option ℕ) → IfOn P (takes_keep image n)) → ((n : Option ℕ) → IfOn P (takes_root image n))
+    → ((p : Option (ℕ × ℕ)) → IfOn P (takes_word image p)) → IfOn P (takes_line image line)
 unfolding takes_line
 if_line P image line words keep root word =
     by_test (IfOn P) (starts (ascii "words=") line) (λ e. words (decimal_of (drop 6 line))) (λ e.
@@ -63,21 +57,21 @@ OneMore image next = next.lines ≤ image.lines + 1
 one_more : (image : Image) (line : List ℕ) → IfOn (OneMore image) (takes_line image line)
 one_more image line = if_line (OneMore image) image line words keep root word
   where
-    words : (number : Number) → IfOn (OneMore image) (takes_words image number)
-    words (Is n) = if_tested (OneMore image) _ _ (λ e. le-add_left 1 image.lines)
-    words Wrong = tt
+    words : (number : Option ℕ) → IfOn (OneMore image) (takes_words image number)
+    words (Some n) = if_tested (OneMore image) _ _ (λ e. le-add_left 1 image.lines)
+    words None = tt
 
-    keep : (number : Number) → IfOn (OneMore image) (takes_keep image number)
-    keep (Is n) = if_tested (OneMore image) (eqb image.lines 1 && leb 1 n && leb n max_keep) _ (λ e. omega (arith, eqb-true image.lines 1 ((and-eq-true_iff _ (leb 1 n)).0 ((and-eq-true_iff (eqb image.lines 1 && leb 1 n) _).0 e).0).0))
-    keep Wrong = tt
+    keep : (number : Option ℕ) → IfOn (OneMore image) (takes_keep image number)
+    keep (Some n) = if_tested (OneMore image) (eqb image.lines 1 && leb 1 n && leb n max_keep) _ (λ e. omega (arith, eqb-true image.lines 1 ((and-eq-true_iff _ (leb 1 n)).0 ((and-eq-true_iff (eqb image.lines 1 && leb 1 n) _).0 e).0).0))
+    keep None = tt
 
-    root : (number : Number) → IfOn (OneMore image) (takes_root image number)
-    root (Is n) = if_tested (OneMore image) _ _ (λ e. le_refl (image.lines + 1))
-    root Wrong = tt
+    root : (number : Option ℕ) → IfOn (OneMore image) (takes_root image number)
+    root (Some n) = if_tested (OneMore image) _ _ (λ e. le_refl (image.lines + 1))
+    root None = tt
 
-    word : (pair : Pair) → IfOn (OneMore image) (takes_word image pair)
-    word (Are a v) = if_tested (OneMore image) _ _ (λ e. le_refl (image.lines + 1))
-    word NoPair = tt
+    word : (pair : Option (ℕ × ℕ)) → IfOn (OneMore image) (takes_word image pair)
+    word (Some (a, v)) = if_tested (OneMore image) _ _ (λ e. le_refl (image.lines + 1))
+    word None = tt
 
 -- What is known between two lines: the lines that are left decide what the text is.
 pub record Between (text roots heap : List ℕ) (b : SoFar) (at : ℕ) : Type 0 where
@@ -86,7 +80,6 @@ pub record Between (text roots heap : List ℕ) (b : SoFar) (at : ℕ) : Type 0 
   pub lines_in : b.lines ≤ at
   pub root_room : max_image_roots ≤ length roots
   pub word_room : max_heap ≤ length heap
-  pub small : Small b
   pub rest : read_on (shows b roots heap) (lines_of (drop at text)) ≡ text_of text
 
 -- A longer text is wrong.
@@ -94,29 +87,33 @@ pub text_long : (text : List ℕ) → max_text < length text → wrong 0 ≡ tex
 unfolding text_of
 text_long text long = rw (lt-leb (length text) max_text long)
 
+-- At the end a line is missing where fewer than two were read.
+pub ends_missing : (image : Image) → image.lines < 2 → wrong (image.lines + 1) ≡ read_on image []
+unfolding read_on
+ends_missing image few = rw (lt-leb 2 image.lines few)
+
+-- Else the text is right.
+pub ends_right : (image : Image) → 2 ≤ image.lines → right image ≡ read_on image []
+unfolding read_on
+ends_right image enough = rw (le-leb 2 image.lines enough)
+
 -- Any other begins.
-pub text_begins : (text roots heap : List ℕ) → length text ≤ max_text → max_image_roots ≤ length roots → max_heap ≤ length heap
-    → Between text roots heap (record { lines = 0; last = 0; keep = 0; roots = 0; words = 0 }) 0
+pub text_begins : (text roots heap : List ℕ) {b : SoFar} → shows b roots heap ≡ blank → length text ≤ max_text → max_image_roots ≤ length roots → max_heap ≤ length heap → Between text roots heap b 0
 unfolding text_of
-text_begins text roots heap short r h =
-    record { inside = omega arith; short = short; lines_in = omega arith; root_room = r; word_room = h; small = record { roots_in = omega arith; words_in = omega arith }; rest = rw (le-leb (length text) max_text short) }
+text_begins text roots heap none short r h =
+    record { inside = omega arith; short = short; lines_in = omega (arith, ap (λ (i : Image). i.lines) none); root_room = r; word_room = h; rest = rw (none, le-leb (length text) max_text short) }
 
 module _ {text roots heap : List ℕ} {b : SoFar} {at : ℕ} (g : Between text roots heap b at) where
-  -- At the end of the text a line is missing where fewer than two were read.
-  pub text_missing : length text ≤ at → b.lines < 2 → wrong (b.lines + 1) ≡ text_of text
-  unfolding read_on lines_of
-  text_missing le few = sym (rw (drop_of_length-le text le, lt-leb 2 b.lines few)) ∙ g.rest
-
-  -- Else the text is right.
-  pub text_ends : length text ≤ at → 2 ≤ b.lines → right (shows b roots heap) ≡ text_of text
-  unfolding read_on lines_of
-  text_ends le enough = sym (rw (drop_of_length-le text le, le-leb 2 b.lines enough)) ∙ g.rest
+  -- At the end of the text no line is left.
+  pub text_ends : length text ≤ at → read_on (shows b roots heap) [] ≡ text_of text
+  unfolding lines_of
+  text_ends le = rw (drop_of_length-le text le) at g.rest
 
   -- Before the end there is a line.
   module _ (more : at < length text) where
     -- It may be read.
     pub line_fits : LineFits b roots heap
-    line_fits = record { few = omega (arith, g.lines_in, g.short); root_room = g.root_room; word_room = g.word_room; small = g.small }
+    line_fits = record { few = omega (arith, g.lines_in, g.short); root_room = g.root_room; word_room = g.word_room }
 
     -- What is left of the text.
     abbrev unread : List ℕ
@@ -133,16 +130,16 @@ module _ {text roots heap : List ℕ} {b : SoFar} {at : ℕ} (g : Between text r
 
     module _ {line : List ℕ} (here : line ≡ first_line unread) where
       -- A line that is wrong where it stands makes the text wrong.
-      pub line_stops : {came : Next} → came ≡ Off → (roots' heap' : List ℕ) → shows_next came roots' heap' ≡ takes_line (shows b roots heap) line → wrong (b.lines + 1) ≡ text_of text
+      pub line_stops : {came : Option SoFar} → came ≡ None → (roots' heap' : List ℕ) → shows_next came roots' heap' ≡ takes_line (shows b roots heap) line → wrong (b.lines + 1) ≡ text_of text
       line_stops told roots' heap' e =
-          let is_off : takes_line (shows b roots heap) (first_line unread) ≡ off = ap (takes_line (shows b roots heap)) (sym here) ∙ sym e ∙ ap (λ (n : Next). shows_next n roots' heap') told in
+          let is_off : takes_line (shows b roots heap) (first_line unread) ≡ off = ap (takes_line (shows b roots heap)) (sym here) ∙ sym e ∙ ap (λ (n : Option SoFar). shows_next n roots' heap') told in
           sym (line_first ∙ ap (or_wrong (b.lines + 1) _) is_off) ∙ g.rest
 
       -- Any other is ended by an LF.
-      module _ {came : Next} {next : SoFar} (told : came ≡ On next) (roots' heap' : List ℕ) (e : shows_next came roots' heap' ≡ takes_line (shows b roots heap) line) where
+      module _ {came : Option SoFar} {next : SoFar} (told : came ≡ Some next) (roots' heap' : List ℕ) (e : shows_next came roots' heap' ≡ takes_line (shows b roots heap) line) where
         -- It makes the next image.
         goes : takes_line (shows b roots heap) (first_line unread) ≡ on (shows next roots' heap')
-        goes = ap (takes_line (shows b roots heap)) (sym here) ∙ sym e ∙ ap (λ (n : Next). shows_next n roots' heap') told
+        goes = ap (takes_line (shows b roots heap)) (sym here) ∙ sym e ∙ ap (λ (n : Option SoFar). shows_next n roots' heap') told
 
         -- It is not empty.
         some : first_line unread ≢ []
@@ -157,8 +154,8 @@ module _ {text roots heap : List ℕ} {b : SoFar} {at : ℕ} (g : Between text r
         next_inside = omega (arith, behind, line_inside unread some, length-drop at text)
 
         -- And so it goes on.
-        pub line_goes : max_image_roots ≤ length roots' → max_heap ≤ length heap' → SmallNext came → Between text roots' heap' next (at + (length line + 1))
-        line_goes r h small =
+        pub line_goes : max_image_roots ≤ length roots' → max_heap ≤ length heap' → Between text roots' heap' next (at + (length line + 1))
+        line_goes r h =
             let count : next.lines ≤ b.lines + 1 = subst (IfOn (OneMore (shows b roots heap))) goes (one_more (shows b roots heap) (first_line unread)) in
             let left_then : drop (suc (index_of 10 unread)) unread ≡ drop (at + (length line + 1)) text = rw behind (drop-drop (length line + 1) at text) in
             record {
@@ -167,6 +164,5 @@ module _ {text roots heap : List ℕ} {b : SoFar} {at : ℕ} (g : Between text r
               lines_in = omega (arith, count, g.lines_in);
               root_room = r;
               word_room = h;
-              small = subst SmallNext told small;
               rest = ap (λ (l : List ℕ). read_on (shows next roots' heap') (lines_of l)) (sym left_then) ∙ sym (line_first ∙ ap (or_wrong (b.lines + 1) _) goes) ∙ g.rest;
             }

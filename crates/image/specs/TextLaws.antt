@@ -1,5 +1,5 @@
 -- Laws of right texts: the limits that their images keep.
-use Rattle.std.specs.Prelude.{ℕ, ◌≤◌, ◌≡◌, not, ◌&&◌, List, [], ◌∷◌, length, leb, ltb, eqb}
+use Rattle.std.specs.Prelude.{ℕ, ◌≤◌, ◌≡◌, not, ◌&&◌, List, [], ◌∷◌, length, leb, ltb, eqb, Option, Some, None}
 use Rattle.std.proofs.Common.{subst, arith, length-append, length-set, leb-true, ltb-true, eqb-true}
 use Rattle.std.proofs.Math.Bool.{and-eq-true_iff}
 use Rattle.std.proofs.lemmas.List.{length-replicate}
@@ -9,46 +9,42 @@ use Rattle.image.specs.Lines.{first_line, lines_of}
 use Rattle.image.specs.Image.{max_text, max_heap, max_image_roots, Image, blank, Taken, on, off, takes_words, takes_keep, takes_root, takes_word, takes_line, Text, right, wrong, or_wrong, read_on, text_of}
 use Rattle.image.specs.Limited.{Limited}
 use Rattle.image.specs.ReadingLaws.{IfOn, if_tested, if_line}
-use Rattle.image.specs.declared.decimals.Number.{Number}
-use Rattle.image.specs.declared.decimals.Number.TheVariants.{Is, Wrong}
-use Rattle.image.specs.declared.decimals.Pair.{Pair}
-use Rattle.image.specs.declared.decimals.Pair.TheVariants.{Are, NoPair}
 
 -- A line keeps the limits.
 module _ (image : Image) (k : Limited image) where
   -- A `words` line does.
-  words_limited : (number : Number) → IfOn Limited (takes_words image number)
-  words_limited (Is n) = if_tested Limited (eqb image.lines 0 && leb 1 n && leb n max_heap) _ (λ e.
+  words_limited : (number : Option ℕ) → IfOn Limited (takes_words image number)
+  words_limited (Some n) = if_tested Limited (eqb image.lines 0 && leb 1 n && leb n max_heap) _ (λ e.
       let x = (and-eq-true_iff (eqb image.lines 0 && leb 1 n) _).0 e in
       let least : 1 ≤ n = leb-true 1 n ((and-eq-true_iff (eqb image.lines 0) _).0 x.0).1 in
       let most : n ≤ max_heap = leb-true n max_heap x.1 in
       record { heap_most = rw (length-replicate {A = ℕ} n 0) most; roots_most = k.roots_most; heap_least = λ _. rw (length-replicate {A = ℕ} n 0) least; keep_least = λ l. absurd (omega (arith, l)); keep_most = λ l. absurd (omega (arith, l)) })
-  words_limited Wrong = tt
+  words_limited None = tt
 
   -- So does a `keep` line.
-  keep_limited : (number : Number) → IfOn Limited (takes_keep image number)
-  keep_limited (Is n) = if_tested Limited (eqb image.lines 1 && leb 1 n && leb n max_keep) _ (λ e.
+  keep_limited : (number : Option ℕ) → IfOn Limited (takes_keep image number)
+  keep_limited (Some n) = if_tested Limited (eqb image.lines 1 && leb 1 n && leb n max_keep) _ (λ e.
       let x = (and-eq-true_iff (eqb image.lines 1 && leb 1 n) _).0 e in
       let y = (and-eq-true_iff (eqb image.lines 1) _).0 x.0 in
       record { heap_most = k.heap_most; roots_most = k.roots_most; heap_least = λ _. k.heap_least (omega (arith, eqb-true image.lines 1 y.0)); keep_least = λ _. leb-true 1 n y.1; keep_most = λ _. leb-true n max_keep x.1 })
-  keep_limited Wrong = tt
+  keep_limited None = tt
 
   -- So does a `root` line.
-  root_limited : (number : Number) → IfOn Limited (takes_root image number)
-  root_limited (Is n) = if_tested Limited (leb 2 image.lines && eqb image.last 0 && ltb (length image.roots) max_image_roots) _ (λ e.
+  root_limited : (number : Option ℕ) → IfOn Limited (takes_root image number)
+  root_limited (Some n) = if_tested Limited (leb 2 image.lines && eqb image.last 0 && ltb (length image.roots) max_image_roots) _ (λ e.
       let x = (and-eq-true_iff (leb 2 image.lines && eqb image.last 0) _).0 e in
       let two : 2 ≤ image.lines = leb-true 2 image.lines ((and-eq-true_iff (leb 2 image.lines) _).0 x.0).0 in
       record { heap_most = k.heap_most; roots_most = omega (arith, length-append image.roots (n ∷ []), ltb-true (length image.roots) max_image_roots x.1); heap_least = λ _. k.heap_least (omega (arith, two)); keep_least = λ _. k.keep_least two; keep_most = λ _. k.keep_most two })
-  root_limited Wrong = tt
+  root_limited None = tt
 
   -- So does a `word` line.
-  word_limited : (pair : Pair) → IfOn Limited (takes_word image pair)
-  word_limited (Are a v) = if_tested Limited (leb 2 image.lines && ltb image.last a && ltb a (length image.heap) && not (eqb v 0)) _ (λ e.
+  word_limited : (pair : Option (ℕ × ℕ)) → IfOn Limited (takes_word image pair)
+  word_limited (Some (a, v)) = if_tested Limited (leb 2 image.lines && ltb image.last a && ltb a (length image.heap) && not (eqb v 0)) _ (λ e.
       let x = (and-eq-true_iff (leb 2 image.lines && ltb image.last a && ltb a (length image.heap)) _).0 e in
       let y = (and-eq-true_iff (leb 2 image.lines && ltb image.last a) _).0 x.0 in
       let two : 2 ≤ image.lines = leb-true 2 image.lines ((and-eq-true_iff (leb 2 image.lines) _).0 y.0).0 in
       record { heap_most = rw (length-set image.heap a v) k.heap_most; roots_most = k.roots_most; heap_least = λ _. rw (length-set image.heap a v) (k.heap_least (omega (arith, two))); keep_least = λ _. k.keep_least two; keep_most = λ _. k.keep_most two })
-  word_limited NoPair = tt
+  word_limited None = tt
 
   -- So does any line.
   line_limited : (line : List ℕ) → IfOn Limited (takes_line image line)

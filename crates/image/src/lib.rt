@@ -6,5 +6,7 @@ mod line;
 mod reader;
 mod reading;
 mod scan;
+mod so_far;
 
-pub use reading::{ReadText, SoFar, read};
+pub use reading::{WrongText, read};
+pub use so_far::SoFar;

@@ -1,5 +1,5 @@
 // A cursor over a lent text that hands out one line at a time.
-ghost use Rattle.std.specs.Prelude.{◌≡◌, ◌+◌, ◌<◌, ◌^◌, drop};
+ghost use Rattle.std.specs.Prelude.{◌≡◌, ◌+◌, ◌<◌, ◌≤◌, ◌^◌, length, drop, MatchOption};
 ghost use Rattle.image.specs.Lines.{first_line};
 
 use crate::line;
@@ -20,35 +20,33 @@ impl<'a> Reader<'a> {
     }
 
     // The line where the cursor stands, without its LF.
-    pub(crate) fn line(self) -> &'a [u8]
+    fn line(self) -> &'a [u8]
         ensures { result.now ≡ first_line (drop self.entry.at self.entry.text.now) }
     {
         line::line_in(self.text, self.at)
     }
 
     // The cursor behind a line of n bytes and its LF.
-    pub(crate) fn past(self, n: usize) -> Reader<'a>
+    fn past(self, n: usize) -> Reader<'a>
         requires { self.at + (n + 1) < 2 ^ 64 }
         ensures { (result.text ≡ self.entry.text) × (result.at ≡ self.entry.at + (n + 1)) }
     {
         Reader {
-            text: self.text,
             at: self.at + (n + 1),
+            ..self
         }
     }
-}
 
-// The line at a place of a text, as a cursor there hands it out.
-pub(crate) fn line_from(text: &[u8], at: usize) -> &[u8]
-    ensures { result.now ≡ first_line (drop at text.now) }
-{
-    Reader::new(text, at).line()
-}
-
-// The place behind a line of n bytes at a place of a text, as a cursor moves to it.
-pub(crate) fn place_past(text: &[u8], at: usize, n: usize) -> usize
-    requires { at + (n + 1) < 2 ^ 64 }
-    ensures { result ≡ at + (n + 1) }
-{
-    Reader::new(text, at).past(n).at
+    // The line where the cursor stands, which moves behind its LF; none at the end of the text.
+    pub(crate) fn next_line(&mut self) -> Option<&'a [u8]>
+        ensures same_text { self.new.text ≡ self.old.text }
+        ensures moves { MatchOption result (length self.old.text.now ≤ self.old.at) (λ line. (self.old.at < length self.old.text.now) × (line.now ≡ first_line (drop self.old.at self.old.text.now)) × (self.new.at ≡ self.old.at + (length line.now + 1))) }
+    {
+        if self.text.len() <= self.at {
+            return None;
+        }
+        let line = self.line();
+        *self = self.past(line.len());
+        Some(line)
+    }
 }

@@ -1,18 +1,10 @@
-// A search for a byte in a part of a text.
-ghost use Rattle.std.specs.Prelude.{◌≡◌, ◌+◌, ◌≤◌, length};
-ghost use Rattle.image.specs.Bytes.{index_of, slice};
+// A search for a byte.
+ghost use Rattle.std.specs.Prelude.{◌≡◌, ◌==◌};
+ghost use Rattle.std.specs.List.{position};
 
-// The place of the first such byte from one place of a text up to another; the other place where there is none.
-pub(crate) fn find(text: &[u8], from: usize, to: usize, byte: u8) -> usize
-    requires in_order { from ≤ to }
-    requires inside { to ≤ length text.now }
-    ensures first { result ≡ from + index_of byte (slice from to text.now) }
-    ensures within { result ≤ to }
+// The place of the first such byte of a text, if there is one.
+pub(crate) fn find(text: &[u8], byte: u8) -> Option<usize>
+    ensures { result ≡ position (λ b. b == byte) text.now }
 {
-    for i in from..to {
-        if text[i] == byte {
-            return i;
-        }
-    }
-    to
+    text.iter().position(|b| *b == byte)
 }

@@ -1,5 +1,5 @@
 -- Laws of an answer: its ways out, and its length.
-use Rattle.std.specs.Prelude.{ℕ, ◌*◌, ◌≤◌, ◌<◌, ◌≡◌, refl, ◌≢◌, length, take, drop, leb, eqb}
+use Rattle.std.specs.Prelude.{ℕ, ◌*◌, ◌≤◌, ◌<◌, ◌≡◌, refl, ◌≢◌, length, take, drop, leb, eqb, Result, Ok, Err}
 use Rattle.std.proofs.Math.Path.{sym, ap}
 use Rattle.std.proofs.Common.{◌∙◌, subst, arith, length-append, take_at}
 use mathlib.Core.List.{List, ◌++◌}
@@ -19,12 +19,11 @@ use Rattle.store.specs.Survey.{surveys}
 use Rattle.store.proofs.SurveyLaws.{Surveyable, surveyable}
 use Rattle.store.specs.declared.surveys.Surveyed.{Surveyed}
 use Rattle.image.specs.Ascii.{ascii}
-use Rattle.image.specs.SoFar.{shows_text, Small, SmallText}
+use Rattle.image.specs.SoFar.{wrong_line, shows_text}
 use Rattle.image.specs.Image.{max_heap, Text, right, wrong, text_of}
 use Rattle.image.specs.TextLaws.{text_right}
-use Rattle.image.specs.declared.reading.SoFar.{SoFar}
-use Rattle.image.specs.declared.reading.ReadText.{ReadText}
-use Rattle.image.specs.declared.reading.ReadText.TheVariants.{Right, WrongLine}
+use Rattle.image.specs.declared.reading.WrongText.{WrongText}
+use Rattle.image.specs.declared.so_far.SoFar.{SoFar}
 use Rattle.report.specs.Answer.{code_lines, count_lines, lines_after, image_lines_in, clear_map, clear_stack, clear_list, image_lines, answer_to, answer, answer_room, Output, output, reports}
 use Rattle.report.specs.Printed.{free_lines}
 use Rattle.report.specs.Puts.{puts}
@@ -110,20 +109,16 @@ answer_fits text = go (text_of text) refl
     go (wrong line) e = code_fits 12 line
 
 -- What reading a text has found tells its answer.
-module _ (text roots heap : List ℕ) {found : ReadText} (e : shows_text found roots heap ≡ text_of text) where
+module _ (text roots heap : List ℕ) {found : Result SoFar WrongText} (e : shows_text found roots heap ≡ text_of text) where
   -- A wrong line has its number printed.
-  pub answer_wrong : {line : ℕ} → found ≡ WrongLine line → code_lines 12 line ≡ answer text
+  pub answer_wrong : {why : WrongText} → found ≡ Err why → code_lines 12 (wrong_line why) ≡ answer text
   unfolding answer
-  answer_wrong told = ap answer_to (ap (λ (f : ReadText). shows_text f roots heap) (sym told) ∙ e)
+  answer_wrong told = ap answer_to (ap (λ (f : Result SoFar WrongText). shows_text f roots heap) (sym told) ∙ e)
 
   -- An image is collected.
-  pub answer_right : {b : SoFar} → found ≡ Right b → image_lines (take b.words heap) b.keep (take b.roots roots) ≡ answer text
+  pub answer_right : {b : SoFar} → found ≡ Ok b → image_lines (take b.words heap) b.keep (take b.roots roots) ≡ answer text
   unfolding answer
-  answer_right told = ap answer_to (ap (λ (f : ReadText). shows_text f roots heap) (sym told) ∙ e)
-
--- An image that was found has no more words and roots than there is room for.
-pub found_small : {found : ReadText} {b : SoFar} → found ≡ Right b → SmallText found → Small b
-found_small told small = subst SmallText told small
+  answer_right told = ap answer_to (ap (λ (f : Result SoFar WrongText). shows_text f roots heap) (sym told) ∙ e)
 
 -- The ways out, where the text was read.
 module _ (text out : List ℕ) where

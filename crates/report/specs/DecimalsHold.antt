@@ -1,5 +1,5 @@
 -- A decimal is read as the number that it is printed for, and nothing else is read.
-use Rattle.std.specs.Prelude.{ℕ, zero, suc, ◌+◌, ◌-◌, ◌*◌, ◌/◌, ◌%◌, ◌^◌, ◌≤◌, ◌<◌, ◌≡◌, refl, ◌≢◌, Bool, true, false, not, List, [], ◌∷◌, ◌++◌, ltb, eqb}
+use Rattle.std.specs.Prelude.{ℕ, zero, suc, ◌+◌, ◌-◌, ◌*◌, ◌/◌, ◌%◌, ◌^◌, ◌≤◌, ◌<◌, ◌≡◌, refl, ◌≢◌, Bool, true, false, not, List, [], ◌∷◌, ◌++◌, ltb, eqb, Option, Some, None}
 use Rattle.std.proofs.Common.{sym, ◌∙◌, append-nil, append_assoc, pow-suc, arith, ltb-true, ltb-false, lt-ltb, le-ltb, le-leb, ne_eqb}
 use Rattle.std.proofs.Math.Bool.{and-eq-true_iff}
 use Rattle.std.proofs.lemmas.Bool.{eqb-false, not-true}
@@ -7,9 +7,8 @@ use Rattle.layout.specs.Refusal.{unless}
 use Rattle.layout.specs.RefusalLaws.{by_test}
 use Rattle.image.specs.Decimal.{is_digit, digits_on, is_plain, decimal_of}
 use Rattle.image.specs.DecimalLaws.{digit_range}
-use Rattle.image.specs.declared.decimals.Number.{Number}
-use Rattle.image.specs.declared.decimals.Number.TheVariants.{Is, Wrong}
 use Rattle.report.specs.Printed.{spelled, decimals}
+use Rattle.report.specs.PrintedLaws.{spare_place}
 
 -- The last decimal of a number, read behind its tenth, gives the number.
 last_read : (n : ℕ) (rest : List ℕ) → n < 2 ^ 32 → digits_on (n / 10) ((48 + n % 10) ∷ rest) ≡ digits_on n rest
@@ -41,16 +40,10 @@ digit_printed f b lo hi =
     rw (lt-ltb (0 + (b - 48)) 10 (omega arith), same)
 
 -- What is printed is read back.
-pub decimals_read : (n : ℕ) → n < 2 ^ 32 → decimal_of (decimals n) ≡ Is n
+pub decimals_read : (n : ℕ) → n < 2 ^ 32 → decimal_of (decimals n) ≡ Some n
 unfolding decimal_of is_plain digits_on is_digit
 decimals_read zero l = rw (digit_printed 19 48 (omega arith) (omega arith))
 decimals_read (suc n) l = rw append-nil at (spelled_read 20 (suc n) [] (omega arith) (omega arith) l)
-
--- A place more than enough changes nothing.
-spare_place : (f n : ℕ) → n < 10 ^ suc f → spelled (suc (suc f)) n ≡ spelled (suc f) n
-unfolding spelled
-spare_place zero n h = rw (lt-ltb n 10 h)
-spare_place (suc f) n h = rw (spare_place f (n / 10) (omega (arith, pow-suc 10 (suc f))))
 
 -- A number other than 0 is printed before a digit that is read behind it.
 digit_behind : (f k b : ℕ) → 1 ≤ k → k < 10 ^ suc f → 48 ≤ b → b ≤ 57 → spelled (suc (suc f)) (10 * k + (b - 48)) ≡ spelled (suc (suc f)) k ++ b ∷ []
@@ -61,12 +54,12 @@ digit_behind f k b some h lo hi =
     rw (le-ltb (10 * k + (b - 48)) 10 (omega arith), tenth, last, spare_place f k h)
 
 -- Where a number comes out, the test held, and the number came from what was next.
-tested : (test : Bool) (next : Number) (n : ℕ) → unless test Wrong next ≡ Is n → (test ≡ true) × (next ≡ Is n)
+tested : (test : Bool) (next : Option ℕ) (n : ℕ) → unless test None next ≡ Some n → (test ≡ true) × (next ≡ Some n)
 tested true next n e = (refl, e)
 tested false next n e = let z : ◌≡◌ {A = ℕ} 0 1 = cc in absurd (omega arith)
 
 -- A byte that was read is a digit that keeps the number below 2 ^ 32.
-digit_read : (k b : ℕ) (rest : List ℕ) (n : ℕ) → digits_on k (b ∷ rest) ≡ Is n → (48 ≤ b) × (b ≤ 57) × (10 * k + (b - 48) < 2 ^ 32) × (digits_on (10 * k + (b - 48)) rest ≡ Is n)
+digit_read : (k b : ℕ) (rest : List ℕ) (n : ℕ) → digits_on k (b ∷ rest) ≡ Some n → (48 ≤ b) × (b ≤ 57) × (10 * k + (b - 48) < 2 ^ 32) × (digits_on (10 * k + (b - 48)) rest ≡ Some n)
 unfolding digits_on
 digit_read k b rest n e =
     let held = tested _ _ n e in
@@ -75,7 +68,7 @@ digit_read k b rest n e =
     (range.0, range.1, ltb-true _ _ tests.1, held.1)
 
 -- Digits read behind a number other than 0 are printed behind it.
-digits_only : (part : List ℕ) (k n : ℕ) → 1 ≤ k → digits_on k part ≡ Is n → decimals n ≡ decimals k ++ part
+digits_only : (part : List ℕ) (k n : ℕ) → 1 ≤ k → digits_on k part ≡ Some n → decimals n ≡ decimals k ++ part
 unfolding digits_on
 digits_only [] k n some e = rw append-nil (cc)
 digits_only (b ∷ rest) k n some e =
@@ -83,7 +76,7 @@ digits_only (b ∷ rest) k n some e =
     digits_only rest (10 * k + (b - 48)) n (omega arith) r.3 ∙ rw (digit_behind 18 k b some (omega arith) r.0 r.1) (append_assoc (decimals k) (b ∷ []) rest)
 
 -- Nothing else is read: a part that is a decimal is the one that is printed for its number.
-pub decimals_only : (part : List ℕ) (n : ℕ) → decimal_of part ≡ Is n → part ≡ decimals n
+pub decimals_only : (part : List ℕ) (n : ℕ) → decimal_of part ≡ Some n → part ≡ decimals n
 unfolding decimal_of is_plain digits_on
 decimals_only [] n e = absurd (let z : ◌≡◌ {A = ℕ} 0 1 = cc in omega arith)
 decimals_only (b ∷ []) n e = let r = digit_read 0 b [] n e in cc (digit_printed 19 b r.0 r.1)

@@ -2,6 +2,8 @@ pub mod Printed
 pub mod Answer
 pub mod Puts
 pub mod PutsLaws
+pub mod Written
+pub mod WrittenLaws
 pub mod PrintedLaws
 pub mod DecimalsHold
 pub mod AnswerLaws

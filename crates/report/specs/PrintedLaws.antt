@@ -1,8 +1,7 @@
 -- Laws of printed numbers and lines.
-use Rattle.std.specs.Prelude.{ℕ, zero, suc, ◌+◌, ◌*◌, ◌/◌, ◌%◌, ◌^◌, ◌≤◌, ◌<◌, ◌≡◌, length, set, drop, ltb}
-use Rattle.std.proofs.Math.Path.{sym}
-use Rattle.std.proofs.Common.{◌∙◌, pow-suc, arith, length-append, drop-cons, drop-set-lt, get_or-set_same, lt-length-set, lt-ltb, le-ltb, ltb-false}
-use mathlib.Core.List.{List, [], ◌∷◌, ◌++◌, append_assoc}
+use Rattle.std.specs.Prelude.{ℕ, zero, suc, ◌+◌, ◌*◌, ◌/◌, ◌%◌, ◌^◌, ◌≤◌, ◌<◌, ◌≡◌, length, ltb}
+use Rattle.std.proofs.Common.{pow-suc, arith, length-append, lt-ltb, le-ltb, ltb-false}
+use mathlib.Core.List.{List, [], ◌∷◌, ◌++◌}
 use Rattle.layout.specs.RefusalLaws.{by_test}
 use Rattle.layout.specs.declared.Interval.{Interval}
 use Rattle.runs.specs.Lists.{Ordered, none, one}
@@ -14,21 +13,21 @@ pub places_left : (j n : ℕ) → n < 10 ^ suc j → 10 ≤ n → (1 ≤ j) × (
 places_left zero n h l = absurd (omega arith)
 places_left (suc j) n h l = (omega arith, omega (arith, pow-suc 10 (suc j)))
 
--- A byte stored in front of what is laid stands in front of it.
-laid : (space : List ℕ) (j b : ℕ) → j < length space → drop j (set space j b) ≡ b ∷ drop (suc j) space
-laid space j b h = drop-cons (set space j b) j 0 (lt-length-set space j b h) ∙ rw (get_or-set_same space j b 0 h, drop-set-lt (suc j) space j b (omega arith))
+-- A place more than enough changes nothing.
+pub spare_place : (f n : ℕ) → n < 10 ^ suc f → spelled (suc (suc f)) n ≡ spelled (suc f) n
+unfolding spelled
+spare_place zero n h = rw (lt-ltb n 10 h)
+spare_place (suc f) n h = rw (spare_place f (n / 10) (omega (arith, pow-suc 10 (suc f))))
 
--- A number's decimals are those of a rest and those laid from j + 1 on; the rest's last one is stored before these.
-module _ (n rest j : ℕ) (space : List ℕ) (inside : j < length space) (e : decimals n ≡ spelled (suc j) rest ++ drop (suc j) space) where
-  -- A rest below 10 has no other.
-  pub spells_last : rest < 10 → drop j (set space j (48 + rest % 10)) ≡ decimals n
-  unfolding spelled
-  spells_last l = laid space j (48 + rest % 10) inside ∙ sym (rw (lt-ltb rest 10 l) at e)
+-- A number below 10 is its last decimal.
+pub spells_last : (n : ℕ) → n < 10 → (48 + n % 10) ∷ [] ≡ decimals n
+unfolding spelled
+spells_last n l = rw (lt-ltb n 10 l)
 
-  -- Any other leaves the decimals of its tenth.
-  pub spells_next : 10 ≤ rest → decimals n ≡ spelled j (rest / 10) ++ drop j (set space j (48 + rest % 10))
-  unfolding spelled
-  spells_next l = rw (laid space j (48 + rest % 10) inside) ((rw (le-ltb rest 10 l) at e) ∙ append_assoc (spelled j (rest / 10)) _ _)
+-- Any other has the decimals of its tenth before that one.
+pub spells_more : (n : ℕ) → 10 ≤ n → n < 2 ^ 64 → decimals (n / 10) ++ (48 + n % 10) ∷ [] ≡ decimals n
+unfolding spelled
+spells_more n l h = rw (le-ltb n 10 l, spare_place 18 (n / 10) (omega arith))
 
 -- A number is spelled in no more places than it is given.
 decimals_places : (f n : ℕ) → length (spelled f n) ≤ f

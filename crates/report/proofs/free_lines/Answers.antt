@@ -1,31 +1,22 @@
--- `free_lines`: what is left to write, from where the lines so far end, is what was to be written.
-use Prim.Native.Nat.{◌+◌}
-use mathlib.Core.Path.{refl, sym, ◌∙◌}
-use native.Mathlib.Omega.{arith}
-use lib.ListN.{drop}
-use Rattle.freelist.specs.Records.{record_at, records}
+-- `free_lines`: with what is left to write, all is written.
+use Rattle.std.proofs.Common.{arith}
 use Rattle.freelist.specs.RecordsLaws.{records_next, records_end}
-use Rattle.report.specs.Printed.{free_line, free_lines}
-use Rattle.report.specs.Puts.{puts}
-use Rattle.report.specs.PutsLaws.{puts_on}
+use Rattle.report.specs.Printed.{free_lines}
+use Rattle.report.specs.WrittenLaws.{writes_none, writes_then}
 use Rattle.report.proofs.free_lines.Goals as goal
 
 pub loop-j-init : goal.loop-j-init
-loop-j-init c = (omega arith, refl)
+loop-j-init c = λ after e. e
 
 pub loop-j-preserved : goal.loop-j-preserved
 unfolding free_lines
 loop-j-preserved c =
     let h = c.loop-j in
-    let t = c.args in
-    let l = records t.count t.list.now in
-    let next = records_next t.count t.list.now h.j (omega arith) in
-    let line = rw c.at-record.ensures.value at c.free-at.ensures in
-    (omega arith, h.invariant.1 ∙ rw next (puts_on h.at (free_line (record_at t.list.now h.j)) (free_lines (drop (h.j + 1) l)) h.out line))
+    let line = rw c.at.ensures.value at c.free.ensures in
+    λ after e. h.invariant after (rw (records_next c.args.count c.args.list.now h.j c.loop-j-test.true) (writes_then line e))
 
 pub returns : goal.returns
-unfolding puts free_lines
+unfolding free_lines
 returns c =
     let h = c.loop-j in
-    let t = c.args in
-    sym (h.invariant.1 ∙ rw (records_end t.count t.list.now h.j (omega arith)) refl)
+    h.invariant h.to (rw (records_end c.args.count c.args.list.now h.j (omega arith)) (writes_none h.to))

@@ -1,6 +1,6 @@
 -- `lines_after`: each way out is a law of `lines_after`.
 use Rattle.report.specs.AnswerLaws.{refuses_collection, refuses_survey, counts_all, records_lie}
-use Rattle.report.specs.PutsLaws.{puts_then}
+use Rattle.report.specs.WrittenLaws.{writes_then}
 use Rattle.report.proofs.lines_after.Goals as goal
 
 pub returns-then-found-ne0 : goal.returns-then-found-ne0
@@ -21,5 +21,4 @@ free_lines-requires c =
 pub returns : goal.returns
 returns c =
     let t = c.args in
-    rw (← counts_all t.found t.list.now c.if-found-ne0.false c.survey-surveyed.ensures c.if-surveyed-ne0.false)
-    (puts_then 0 _ _ t.out.now c.count_lines-at.ensures c.free_lines.ensures)
+    rw (← counts_all t.found t.list.now c.if-found-ne0.false c.survey-surveyed.ensures c.if-surveyed-ne0.false) (writes_then c.count_lines.ensures c.free_lines.ensures)

@@ -1,10 +1,10 @@
--- `decimals::decimal_of`: the two tests are the definition's.
-use mathlib.Core.Path.{sym, ◌∙◌}
+-- `decimals::decimal_of`: the test is the definition's.
+use Rattle.std.proofs.Common.{sym, ◌∙◌}
 use Rattle.image.specs.DecimalLaws.{decimal_refused, decimal_read}
 use Rattle.image.proofs.decimals.decimal_of.Goals as goal
 
-pub returns-then-not-is_plain : goal.returns-then-not-is_plain
-returns-then-not-is_plain c = decimal_refused c.args.part.now (sym c.is_plain.ensures ∙ c.if-not-is_plain.true)
+pub returns-then-is_plain : goal.returns-then-is_plain
+returns-then-is_plain c = c.digits.ensures ∙ decimal_read c.args.part.now (sym c.is_plain.ensures ∙ c.if-is_plain.true)
 
-pub returns : goal.returns
-returns c = c.digits.ensures ∙ decimal_read c.args.part.now (sym c.is_plain.ensures ∙ c.if-not-is_plain.false)
+pub returns-else-is_plain : goal.returns-else-is_plain
+returns-else-is_plain c = decimal_refused c.args.part.now (sym c.is_plain.ensures ∙ c.if-is_plain.false)

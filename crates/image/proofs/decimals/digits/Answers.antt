@@ -1,30 +1,27 @@
 -- `decimals::digits`: what the number read so far makes with the bytes left is what all of them make.
-use mathlib.Core.Path.{refl, sym, ◌∙◌}
-use native.Mathlib.Omega.{arith}
-use Rattle.image.specs.DecimalLaws.{digit_range, digits_end, digits_stop, digits_over, digits_next}
-use borrow.Author.Rules.{rules}
+use Rattle.std.proofs.Common.{◌+◌, ◌-◌, ◌*◌, ◌≡◌, get_or, sym, ◌∙◌, arith}
+use Rattle.image.specs.DecimalLaws.{digit_tested, number_kept, number_lost, digits_end, digits_stop, digits_over, digits_next}
 use Rattle.image.proofs.decimals.digits.Goals as goal
 
-pub loop-i-init : goal.loop-i-init
-loop-i-init c = (search rules, search rules, refl)
+pub returns-then-not-is_ascii_digit : goal.returns-then-not-is_ascii_digit
+returns-then-not-is_ascii_digit c =
+    let h = c.loop-byte in
+    sym (sym h.invariant.1 ∙ digits_stop c.args.part.now h.n h.byte-index c.loop-byte-test.true (sym (digit_tested _) ∙ sym c.is_ascii_digit.ensures.value ∙ c.if-not-is_ascii_digit.true))
 
-pub returns-then-not-is_digit : goal.returns-then-not-is_digit
-returns-then-not-is_digit c = let h = c.loop-i in sym (sym h.invariant.2 ∙ digits_stop c.args.part.now h.n h.i (omega (arith, h.invariant.0)) (sym c.is_digit.ensures ∙ c.if-not-is_digit.true))
+pub returns-in_err-n : goal.returns-in_err-n
+returns-in_err-n c =
+    let h = c.loop-byte in
+    let digit = sym (digit_tested (get_or c.args.part.now h.byte-index 0)) ∙ sym c.is_ascii_digit.ensures.value ∙ c.if-not-is_ascii_digit.false in
+    let over = number_lost _ _ c.try_from.ensures (sym c.ok.ensures.value ∙ c.in_err-n.was) in
+    c.from_residual.ensures ∙ sym (sym h.invariant.1 ∙ digits_over c.args.part.now h.n h.byte-index c.loop-byte-test.true digit (omega (arith, over, c.from.ensures, c.from-in-loop-byte.ensures)))
 
-pub overflow_sub-n : goal.overflow_sub-n
-overflow_sub-n c = (digit_range _ (sym c.is_digit.ensures ∙ c.if-not-is_digit.false)).0
-
-pub overflow_cast-n : goal.overflow_cast-n
-overflow_cast-n c = record { fits = omega (arith, digit_range _ (sym c.is_digit.ensures ∙ c.if-not-is_digit.false)) }
-
-pub overflow_add-n : goal.overflow_add-n
-overflow_add-n c = record { fits = omega (arith, digit_range _ (sym c.is_digit.ensures ∙ c.if-not-is_digit.false)) }
-
-pub returns-then-n-gt4294967295 : goal.returns-then-n-gt4294967295
-returns-then-n-gt4294967295 c = let h = c.loop-i in sym (sym h.invariant.2 ∙ digits_over c.args.part.now h.n h.i (omega arith) (sym c.is_digit.ensures ∙ c.if-not-is_digit.false) (omega arith))
-
-pub loop-i-preserved : goal.loop-i-preserved
-loop-i-preserved c = let h = c.loop-i in (omega arith, omega arith, sym (digits_next c.args.part.now h.n h.i (omega arith) (sym c.is_digit.ensures ∙ c.if-not-is_digit.false) (omega arith)) ∙ h.invariant.2)
+pub loop-byte-preserved : goal.loop-byte-preserved
+loop-byte-preserved c =
+    let h = c.loop-byte in
+    let digit = sym (digit_tested (get_or c.args.part.now h.byte-index 0)) ∙ sym c.is_ascii_digit.ensures.value ∙ c.if-not-is_ascii_digit.false in
+    let kept = number_kept _ _ c.try_from.ensures (sym c.ok.ensures.value ∙ c.in_ok-n.was) in
+    let more : c.in_ok-n.n ≡ 10 * h.n + (get_or c.args.part.now h.byte-index 0 - 48) = omega (arith, kept.1, c.from.ensures, c.from-in-loop-byte.ensures) in
+    (omega (arith, kept.0, kept.1), rw more (sym (digits_next c.args.part.now h.n h.byte-index c.loop-byte-test.true digit (omega (arith, kept.0, kept.1, more))) ∙ h.invariant.1))
 
 pub returns : goal.returns
-returns c = let h = c.loop-i in sym (digits_end c.args.part.now h.n h.i (omega arith)) ∙ h.invariant.2
+returns c = let h = c.loop-byte in sym (digits_end c.args.part.now h.n h.byte-index (omega arith)) ∙ h.invariant.1

@@ -1,9 +1,7 @@
 -- `decimals::digits`: what the number read so far makes with the bytes left is what all of them make.
-use Prim.Native.Nat.{◌≤◌, ◌<◌, ◌^◌}
-use mathlib.Core.Path.{◌≡◌}
-use lib.ListN.{length, drop}
+use Rattle.std.proofs.Common.{◌<◌, ◌^◌, ◌≡◌, drop}
 use Rattle.image.specs.Decimal.{digits_on}
 use Rattle.image.proofs.decimals.digits.Given as goal
 
-abbrev pub invariant-loop-i : goal.invariant-loop-i
-invariant-loop-i l = (l.i ≤ length l.part) × (l.n < 2 ^ 32) × (digits_on l.n (drop l.i l.part) ≡ digits_on 0 l.part)
+abbrev pub invariant-loop-byte : goal.invariant-loop-byte
+invariant-loop-byte l = (l.n < 2 ^ 32) × (digits_on l.n (drop l.byte-index l.part) ≡ digits_on 0 l.part)

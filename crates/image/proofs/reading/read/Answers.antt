@@ -1,48 +1,56 @@
 -- `reading::read`: between two lines, those that are left decide what the text is.
-use mathlib.Core.Path.{refl, sym, ◌∙◌, subst}
-use native.Mathlib.Omega.{arith}
-use Rattle.image.specs.ReadingLaws.{Between, text_long, text_begins, text_missing, text_ends, line_fits, line_stops, next_inside, line_goes}
+use Rattle.std.proofs.Common.{◌≡◌, ◌+◌, refl, ◌∙◌, arith}
+use Rattle.std.proofs.lemmas.Result.{err_from_is_err_and}
+use Rattle.image.specs.declared.reading.WrongText.TheVariants.{Line}
+use Rattle.image.specs.ReadingLaws.{text_long, text_begins, text_ends, line_fits, line_stops, next_inside, line_goes}
 use Rattle.image.proofs.reading.read.Goals as goal
 
 pub returns-then-text-gt-MAX_TEXT : goal.returns-then-text-gt-MAX_TEXT
-returns-then-text-gt-MAX_TEXT c = record { meaning = text_long c.args.text.now c.if-text-gt-MAX_TEXT.true; small = tt }
+returns-then-text-gt-MAX_TEXT c = text_long c.args.text.now c.if-text-gt-MAX_TEXT.true
 
-pub loop-at-init : goal.loop-at-init
-loop-at-init c = (text_begins c.args.text.now c.args.roots.now c.args.heap.now (omega arith) c.requires.0 c.requires.1, refl, refl)
+pub loop-line-init : goal.loop-line-init
+loop-line-init c =
+    let t = c.args in
+    let begins = text_begins t.text.now t.roots.now t.heap.now (c.none_read-got.ensures t.roots.now t.heap.now) (omega arith) c.requires.0 c.requires.1 in
+    (rw c.new-lines.ensures.1 begins, rw c.new-lines.ensures.0 refl, refl, refl)
 
 pub take-requires : goal.take-requires
-take-requires c = line_fits c.loop-at.invariant.0 (omega arith)
+take-requires c = let h = c.loop-line.invariant in line_fits h.0 (rw h.1 at c.in-Some.ensures.moves.0)
 
-pub overflow_add-result : goal.overflow_add-result
-overflow_add-result c = let g = c.loop-at.invariant.0 in record { fits = omega (arith, g.lines_in, g.short, g.inside) }
+pub next_wrong-requires : goal.next_wrong-requires
+next_wrong-requires c = let g = c.loop-line.invariant.0 in omega (arith, g.lines_in, g.short, g.inside)
 
-pub returns-in_default : goal.returns-in_default
-returns-in_default c =
-    let h = c.loop-at in
+pub returns-in_err-got : goal.returns-in_err-got
+returns-in_err-got c =
+    let h = c.loop-line.invariant in
     let t = c.take in
-    record { meaning = line_stops h.invariant.0 (omega arith) c.line_from-line.ensures c.in_default.is t.new.roots t.new.heap t.ensures.meaning; small = tt }
+    let f = c.in_err-got.ensures in
+    let p = err_from_is_err_and c.from_residual.result c.from_residual.ensures.1 in
+    let late = rw (f.ok_part, c.next_wrong.ensures) at f.value in
+    let number : c.in_err-got.field-0.0 ≡ Line (c.loop-line.got.lines + 1) = cc in
+    let came = c.in-Some.ensures.moves in
+    rw (p.1, p.2, number) (line_stops h.0 (rw h.1 at came.0) (rw h.1 at came.1) f.ok_part t.new.roots t.new.heap t.ensures)
 
-pub place_past-at-requires : goal.place_past-at-requires
-place_past-at-requires c =
-    let h = c.loop-at in
+pub loop-line-smaller : goal.loop-line-smaller
+loop-line-smaller c =
+    let h = c.loop-line.invariant in
     let t = c.take in
-    omega (arith, next_inside h.invariant.0 (omega arith) c.line_from-line.ensures c.in-On.is t.new.roots t.new.heap t.ensures.meaning, h.invariant.0.short)
+    let came = c.in-Some.ensures.moves in
+    let inside = next_inside h.0 (rw h.1 at came.0) (rw h.1 at came.1) c.in_ok-got.ensures.ok_part t.new.roots t.new.heap t.ensures in
+    omega (arith, inside, came.2)
 
-pub loop-at-smaller : goal.loop-at-smaller
-loop-at-smaller c =
-    let h = c.loop-at in
+pub loop-line-preserved : goal.loop-line-preserved
+loop-line-preserved c =
+    let h = c.loop-line.invariant in
     let t = c.take in
-    omega (arith, next_inside h.invariant.0 (omega arith) c.line_from-line.ensures c.in-On.is t.new.roots t.new.heap t.ensures.meaning, c.place_past-at.ensures)
+    let came = c.in-Some.ensures.moves in
+    let goes = line_goes h.0 (rw h.1 at came.0) (rw h.1 at came.1) c.in_ok-got.ensures.ok_part t.new.roots t.new.heap t.ensures (omega (arith, t.auto.roots, h.0.root_room)) (omega (arith, t.auto.heap, h.0.word_room)) in
+    (rw came.2 goes, rw c.in-Some.ensures.same_text h.1, t.auto.roots ∙ h.2, t.auto.heap ∙ h.3)
 
-pub loop-at-preserved : goal.loop-at-preserved
-loop-at-preserved c =
-    let h = c.loop-at in
-    let t = c.take in
-    let goes = line_goes h.invariant.0 (omega arith) c.line_from-line.ensures c.in-On.is t.new.roots t.new.heap t.ensures.meaning (omega (arith, t.auto.roots, h.invariant.0.root_room)) (omega (arith, t.auto.heap, h.invariant.0.word_room)) t.ensures.small in
-    (subst (Between _ _ _ _) (sym c.place_past-at.ensures) goes, t.auto.roots ∙ h.invariant.1, t.auto.heap ∙ h.invariant.2)
-
-pub returns-then-got-lt2 : goal.returns-then-got-lt2
-returns-then-got-lt2 c = record { meaning = text_missing c.loop-at.invariant.0 (omega arith) (omega arith); small = tt }
+pub finish-requires : goal.finish-requires
+finish-requires c = let g = c.loop-line.invariant.0 in omega (arith, g.lines_in, g.short, g.inside)
 
 pub returns : goal.returns
-returns c = let g = c.loop-at.invariant.0 in record { meaning = text_ends g (omega arith) (omega arith); small = record { roots_in = g.small.roots_in; words_in = g.small.words_in } }
+returns c =
+    let h = c.loop-line.invariant in
+    c.finish.ensures c.loop-line.roots c.loop-line.heap ∙ text_ends h.0 (rw h.1 at c.in_default.ensures.moves)

@@ -1,0 +1,8 @@
+-- `Writer::said`: the name, the number and the line's end are written one behind another.
+use Rattle.image.specs.Ascii.{ascii}
+use Rattle.report.specs.WrittenLaws.{writes_then}
+use Rattle.report.proofs.put.Writer.said.Goals as goal
+
+pub returns : goal.returns
+unfolding ascii
+returns c = writes_then (writes_then c.all.ensures c.decimals.ensures) c.byte.ensures
