@@ -1,4 +1,5 @@
 -- The calls from C end as demand 1 says, and their contracts settle their outcomes.
+use Rattle.store.specs.Survey.{Surveyed}
 use Rattle.std.specs.Prelude.{ℕ, ◌≤◌, ◌≡◌, refl, true, false, List, [], ◌∷◌, length, leb}
 use mathlib.Mathlib.Data.Bool.Basic.{eq-false_of_not-eq-true}
 use Rattle.std.proofs.Common.{arith, le-leb, leb-true}
@@ -6,9 +7,7 @@ use contract.Lifetimes.{Lfts}
 use Rattle.layout.specs.SetUp.{Prepared}
 use Rattle.collector.specs.Collect.{Left}
 use Rattle.store.specs.Allot.{Allotment}
-use Rattle.store.specs.Fields.{Written}
-use Rattle.store.specs.declared.fields.Reading.{Reading}
-use Rattle.store.specs.declared.surveys.Surveyed.{Surveyed}
+use Rattle.store.specs.Fields.{Reading, Written}
 use Rattle.firmware.specs.Lent.{state_room, state_in, state_words, collected_words, figures_words, fronted}
 use Rattle.firmware.specs.LentLaws.{Long, both_long}
 use Rattle.firmware.specs.Calls.{SettingUp, setting_up, hx_sets_up, Collecting, collecting, hx_collects, Allotting, allotting, hx_allots, Telling, telling, hx_reads, hx_writes, hx_surveys}

@@ -31,6 +31,7 @@ pub mod ShutOutHold
 pub mod StandsLaws
 pub mod StationHolds
 pub mod TextsHold
+pub mod ToldHolds
 pub mod TotalLaws
 pub mod TracksLaws
 pub mod UnreadHolds

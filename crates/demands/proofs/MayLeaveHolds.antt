@@ -42,14 +42,14 @@ module _ (κ : Lft) (place : ℕ × ℕ) (name : GName) where
   -- A call may have its effect,
   pub may_effect : (w : World) (c : Call) → MayHave w c (effect w c)
   unfolding effect lend lend_mut
-  may_effect w (allot s p) = by_allot (κ, (κ, (κ, tt))) w.state (lend_mut w.heap) (lend_mut w.map) (lend_mut w.list) w.stack s p (allots_on w s p) refl
-  may_effect w (read a k) = by_read (κ, (κ, tt)) w.state (lend w.heap) (lend w.map) w.stack w.list a k (reads_on w a k) refl
-  may_effect w (write a k v) = by_write (κ, (κ, tt)) w.state (lend_mut w.heap) (lend w.map) w.stack w.list a k v (writes_on w a k v) refl
-  may_effect w (collect roots) = by_collect (κ, (κ, (κ, (κ, (κ, tt))))) w.state (lend w.heap) (lend roots) (lend_mut w.map) (lend_mut w.stack) (lend_mut w.list) (collects_on w roots) refl
-  may_effect w survey = by_survey (κ, tt) w.state (lend w.list) w.heap w.map w.stack (surveys_on w) refl
+  may_effect w (allot s p) = by_allot (κ, (κ, (κ, tt))) w.state (lend_mut w.heap) (lend_mut w.map) (lend_mut w.list) w.stack s p (allots_on w s p) (((allot_settled (κ, (κ, (κ, tt))) w.state (lend_mut w.heap) (lend_mut w.map) (lend_mut w.list) s p).just _).1 refl)
+  may_effect w (read a k) = by_read (κ, (κ, tt)) w.state (lend w.heap) (lend w.map) w.stack w.list a k (reads_on w a k) (((read_settled (κ, (κ, tt)) w.state (lend w.heap) (lend w.map) a k).just _).1 refl)
+  may_effect w (write a k v) = by_write (κ, (κ, tt)) w.state (lend_mut w.heap) (lend w.map) w.stack w.list a k v (writes_on w a k v) (((write_settled (κ, (κ, tt)) w.state (lend_mut w.heap) (lend w.map) a k v).just _).1 refl)
+  may_effect w (collect roots) = by_collect (κ, (κ, (κ, (κ, (κ, tt))))) w.state (lend w.heap) (lend roots) (lend_mut w.map) (lend_mut w.stack) (lend_mut w.list) (collects_on w roots) (((collect_settled (κ, (κ, (κ, (κ, (κ, tt))))) w.state (lend w.heap) (lend roots) (lend_mut w.map) (lend_mut w.stack) (lend_mut w.list)).just _).1 refl)
+  may_effect w survey = by_survey (κ, tt) w.state (lend w.list) w.heap w.map w.stack (surveys_on w) (((survey_settled (κ, tt) w.state (lend w.list)).just _).1 refl)
 
   -- and a history may leave its world.
   pub may_world : (past : History) → MayLeave past (world past)
   unfolding world new_world lend lend_mut
-  may_world (set_up heap t map stack list) = at_set_up (κ, (κ, (κ, tt))) (lend heap) t (lend_mut map) (lend_mut list) stack (sets_up heap t map list) refl
+  may_world (set_up heap t map stack list) = at_set_up (κ, (κ, (κ, tt))) (lend heap) t (lend_mut map) (lend_mut list) stack (sets_up heap t map list) (((set_up_settled (κ, (κ, (κ, tt))) (lend heap) t (lend_mut map) (lend_mut list)).just _).1 refl)
   may_world (past then c) = at_call (may_world past) (may_effect (world past) c)

@@ -11,6 +11,9 @@ use Rattle.words.proofs.bits.is_start as is_start
 use Rattle.words.proofs.bits.set as set
 use Rattle.layout.proofs.first_list as first_list
 use Rattle.layout.proofs.parts.clear as clear
+use Rattle.layout.proofs.refusal.Refusal.number as number
+use Rattle.layout.proofs.Rooms.needed as needed
+use Rattle.layout.proofs.State.rooms as fitted
 use Rattle.freelist.proofs.records.at as record_at
 use Rattle.freelist.proofs.records.are_valid as are_valid
 use Rattle.freelist.proofs.search.fitting as fitting
@@ -63,6 +66,18 @@ first_list_same κs a x y p q i = (agree p.0 q.0 i, (tt, (tt, (agree p.1 q.1 i, 
 -- That of `parts::clear` allows one content of the part.
 pub clear_same : Same (ended_of _ clear.Kinds.ps clear.Kinds.r) clear.Reads.Learnt
 clear_same κs a x y p q i = (x.0, (agree p q i, x.1.1))
+
+-- That of `Refusal::number` allows one number.
+pub number_same : Same (ended_of _ number.Kinds.ps number.Kinds.r) number.Reads.Learnt
+number_same κs a x y p q i = (agree p q i, x.1)
+
+-- That of `Rooms::needed` allows one answer.
+pub needed_same : Same (ended_of _ needed.Kinds.ps needed.Kinds.r) needed.Reads.Learnt
+needed_same κs a x y p q i = (agree p q i, x.1)
+
+-- That of `State::rooms` allows one answer.
+pub fitted_same : Same (ended_of _ fitted.Kinds.ps fitted.Kinds.r) fitted.Reads.Learnt
+fitted_same κs a x y p q i = (agree p q i, x.1)
 
 -- The functions of `freelist`.
 

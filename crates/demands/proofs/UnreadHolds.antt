@@ -13,15 +13,13 @@ use Rattle.layout.specs.Intervals.{shown}
 use Rattle.layout.specs.Limits.{within, suits, map_words, stack_words, list_words}
 use Rattle.layout.specs.LimitsLaws.{limits, suits_limits, two_fit}
 use Rattle.layout.specs.RefusalLaws.{no_refusal}
-use Rattle.layout.specs.SetUp.{prepared, first_list, sets_up}
-use Rattle.layout.specs.declared.SetUp.{SetUp}
+use Rattle.layout.specs.SetUp.{SetUp, prepared, first_list, sets_up}
 use Rattle.layout.specs.declared.State.{State}
 use Rattle.runs.proofs.CoverLaws.{start_take}
 use Rattle.collector.specs.Collect.{Left, collects_in, collects}
-use Rattle.store.specs.Allot.{Allotment, allotment, allots_in, allots}
+use Rattle.store.specs.Allot.{Allotted, Allotment, allotment, allots_in, allots}
 use Rattle.store.specs.Fields.{field_code, object_code, reads, takes, writes}
 use Rattle.store.specs.Survey.{surveys}
-use Rattle.store.specs.declared.allots.Allotted.{Allotted}
 use Rattle.demands.specs.Demand1.{CollectEnds}
 use Rattle.demands.proofs.Demand1CollectHolds.{collect_ends}
 use Rattle.demands.proofs.Demand1Holds.{first_long}

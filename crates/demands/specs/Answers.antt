@@ -1,6 +1,6 @@
 -- How read and write answer in a history, said of what is held and of what was last written.
+use Rattle.store.specs.Fields.{Reading}
 use Rattle.std.specs.Prelude.{ℕ, ◌-◌, ◌≤◌, ◌<◌, ◌≡◌, ◌≢◌, ◌⊎◌}
-use Rattle.store.specs.declared.fields.Reading.{Reading}
 use Rattle.demands.specs.History.{History, Held, allotted_as, last_written}
 
 module _ (past : History) (a k : ℕ) where

@@ -6,10 +6,8 @@ use Rattle.layout.specs.declared.State.{State}
 use Rattle.layout.specs.SetUp.{Prepared, prepared, set_up_refused}
 use Rattle.collector.specs.Collect.{Left, left, collect_refused}
 use Rattle.store.specs.Allot.{Allotment, allotment, allot_refused}
-use Rattle.store.specs.Fields.{Written, written}
-use Rattle.store.specs.Survey.{survey_refused}
-use Rattle.store.specs.declared.fields.Reading.{Reading}
-use Rattle.store.specs.declared.surveys.Surveyed.{Surveyed}
+use Rattle.store.specs.Fields.{Reading, Written, written}
+use Rattle.store.specs.Survey.{Surveyed, survey_refused}
 use Rattle.demands.specs.Lent.{Bounded, Lent}
 
 -- A buffer keeps its length, and its words past the first n.

@@ -9,8 +9,7 @@ use Rattle.runs.specs.Runs.{runs, free_list}
 use Rattle.runs.specs.Lists.{Member, Longest, Ordered}
 use Rattle.freelist.specs.Records.{records}
 use Rattle.marking.specs.Marking.{Marking, going, refused, move, run, begin}
-use Rattle.collector.specs.Collect.{Left}
-use Rattle.collector.specs.declared.Collected.{Collected}
+use Rattle.collector.specs.Collect.{Collected, Left}
 use Rattle.demands.specs.Reach.{Reach, Live, Sound, Fault}
 
 -- Just the numbers of which P holds pass the test.

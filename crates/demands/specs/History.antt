@@ -1,10 +1,10 @@
 -- Histories: one set-up, and then calls of every kind, each of which gets what the last one left.
+use Rattle.store.specs.Allot.{Allotted}
 use Prim.{Unit}
 use Rattle.std.specs.Prelude.{ℕ, ◌≤◌, ◌≡◌, ◌⊎◌, Bool, true, cond, ◌&&◌, length, eqb}
 use mathlib.Core.List.{List, [], ◌∷◌, Memᴰ}
 use Rattle.words.specs.declared.header.Header.{Header}
 use Rattle.layout.specs.Limits.{max_roots}
-use Rattle.store.specs.declared.allots.Allotted.{Allotted}
 use Rattle.demands.specs.Reach.{Reach}
 use Rattle.demands.specs.Lent.{Lent}
 use Rattle.demands.specs.World.{World, On, Call, allot, read, write, collect, survey, new_world, after, allots_on, writes_on}

@@ -1,13 +1,12 @@
 -- Histories by the contracts alone: which effects the contract of each call allows.
+use Rattle.store.specs.Survey.{Surveyed}
 use Rattle.std.specs.Prelude.{ℕ, List}
 use contract.Lifetimes.{Lfts}
 use Rattle.layout.specs.SetUp.{Prepared}
 use Rattle.layout.specs.declared.State.{State}
 use Rattle.collector.specs.Collect.{Left}
 use Rattle.store.specs.Allot.{Allotment}
-use Rattle.store.specs.Fields.{Written}
-use Rattle.store.specs.declared.fields.Reading.{Reading}
-use Rattle.store.specs.declared.surveys.Surveyed.{Surveyed}
+use Rattle.store.specs.Fields.{Reading, Written}
 use Rattle.demands.specs.World.{World, made, begun, Call, allot, read, write, collect, survey, Effect, of_allot, of_read, of_write, of_collect, of_survey}
 use Rattle.demands.specs.History.{History, set_up, ◌then◌}
 use Rattle.demands.specs.Sameness.{Loan, MutLoan, set_up_contract, collect_contract, allot_contract, read_contract, write_contract, survey_contract}

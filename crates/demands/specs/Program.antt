@@ -1,8 +1,8 @@
 -- What the text program tells of an image, said of what its roots reach.
+use Rattle.collector.specs.Collect.{Collected}
 use Rattle.std.specs.Prelude.{ℕ, ◌≡◌, List, ◌++◌}
 use Rattle.freelist.specs.Records.{records}
 use Rattle.freelist.specs.Figures.{figures_of}
-use Rattle.collector.specs.declared.Collected.{Collected}
 use Rattle.marking.specs.Marking.{Marking, refused, move}
 use Rattle.report.specs.Printed.{free_lines}
 use Rattle.report.specs.Answer.{code_lines, count_lines}

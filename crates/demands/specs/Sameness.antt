@@ -1,11 +1,15 @@
 -- What the contract of each public function asks and allows, at any arguments: `Asked` and `Learnt` are the toolchain's own, read off the source.
-use Rattle.std.specs.Prelude.{ℕ, ◌≡◌, ◌↔◌, List}
+use Rattle.store.specs.Survey.{Surveyed, survey_told}
+use Rattle.std.specs.Prelude.{ℕ, ◌≡◌, ◌↔◌, List, Result}
 use contract.Lifetimes.{Lfts}
 use Rattle.std.specs.Borrow.{Bor, MutBor}
 use denote.Triple.Entry.{Args, Res}
 use denote.Triple.Clauses.{Ended, Lasts, AtExit, at_exit}
 use borrow.Fn.Kinds.{Dens, ended_of}
-use Rattle.layout.specs.SetUp.{Prepared}
+use Rattle.layout.specs.Refusal.{code_told}
+use Rattle.layout.specs.SetUp.{Prepared, set_up_told}
+use Rattle.layout.specs.declared.refusal.Refusal.{Refusal}
+use Rattle.freelist.specs.declared.figures.Figures.{Figures}
 use Rattle.layout.specs.declared.Rooms.{Rooms}
 use Rattle.layout.specs.declared.State.{State}
 use Rattle.layout.proofs.Rooms.of as rooms
@@ -13,12 +17,14 @@ use Rattle.layout.proofs.State.set_up as set_up
 use Rattle.firmware.proofs.hx_map_words as hx_map
 use Rattle.firmware.proofs.hx_stack_words as hx_stack
 use Rattle.firmware.proofs.hx_list_words as hx_list
-use Rattle.collector.specs.Collect.{Left}
+use Rattle.collector.specs.Collect.{Left, collect_told}
+use Rattle.collector.specs.declared.Collection.{Collection}
+use Rattle.collector.specs.declared.Refused.{Refused}
 use Rattle.collector.proofs.collect as collect
-use Rattle.store.specs.Allot.{Allotment}
-use Rattle.store.specs.Fields.{Written}
-use Rattle.store.specs.declared.fields.Reading.{Reading}
-use Rattle.store.specs.declared.surveys.Surveyed.{Surveyed}
+use Rattle.store.specs.Allot.{Allotment, allot_told}
+use Rattle.store.specs.declared.allots.NewObject.{NewObject}
+use Rattle.store.specs.declared.allots.Refused.{Refused as AllotRefused}
+use Rattle.store.specs.Fields.{Reading, Written, read_told}
 use Rattle.store.proofs.allot as allot
 use Rattle.store.proofs.read as read
 use Rattle.store.proofs.write as write
@@ -73,7 +79,7 @@ module _ (κs : Lfts 3) (heap : Loan) (keep : ℕ) (map list : MutLoan) where
 
   -- The contract of set-up.
   abbrev pub set_up_contract : Contract Prepared
-  set_up_contract = record { asks = set_up.Reads.Asked κs set_up_begin; allows = λ x. set_up.Reads.Learnt κs set_up_begin x.answer (set_up_end x) }
+  set_up_contract = record { asks = set_up.Reads.Asked κs set_up_begin; allows = λ x. (r : Result State Refusal) × (set_up_told r ≡ x.answer) × set_up.Reads.Learnt κs set_up_begin r (set_up_end x) }
 
 module _ (κs : Lfts 5) (state : State) (heap roots : Loan) (map stack list : MutLoan) where
   -- What collect is handed.
@@ -86,7 +92,7 @@ module _ (κs : Lfts 5) (state : State) (heap roots : Loan) (map stack list : Mu
 
   -- The contract of collect.
   abbrev pub collect_contract : Contract Left
-  collect_contract = record { asks = collect.Reads.Asked κs collect_begin; allows = λ x. collect.Reads.Learnt κs collect_begin x.answer (collect_end x) }
+  collect_contract = record { asks = collect.Reads.Asked κs collect_begin; allows = λ x. (r : Result Collection Refused) × (collect_told r ≡ x.answer) × collect.Reads.Learnt κs collect_begin r (collect_end x) }
 
 module _ (κs : Lfts 3) (state : State) (heap map list : MutLoan) (s p : ℕ) where
   -- What allot is handed.
@@ -99,7 +105,7 @@ module _ (κs : Lfts 3) (state : State) (heap map list : MutLoan) (s p : ℕ) wh
 
   -- The contract of allot.
   abbrev pub allot_contract : Contract Allotment
-  allot_contract = record { asks = allot.Reads.Asked κs allot_begin; allows = λ x. allot.Reads.Learnt κs allot_begin x.answer (allot_end x) }
+  allot_contract = record { asks = allot.Reads.Asked κs allot_begin; allows = λ x. (r : Result NewObject AllotRefused) × (allot_told r ≡ x.answer) × allot.Reads.Learnt κs allot_begin r (allot_end x) }
 
 module _ (κs : Lfts 2) (state : State) (heap map : Loan) (a k : ℕ) where
   -- What read is handed.
@@ -112,7 +118,7 @@ module _ (κs : Lfts 2) (state : State) (heap map : Loan) (a k : ℕ) where
 
   -- The contract of read.
   abbrev pub read_contract : Contract Reading
-  read_contract = record { asks = read.Reads.Asked κs read_begin; allows = λ x. read.Reads.Learnt κs read_begin x read_end }
+  read_contract = record { asks = read.Reads.Asked κs read_begin; allows = λ x. (r : Result ℕ Refusal) × (read_told r ≡ x) × read.Reads.Learnt κs read_begin r read_end }
 
 module _ (κs : Lfts 2) (state : State) (heap : MutLoan) (map : Loan) (a k v : ℕ) where
   -- What write is handed.
@@ -125,7 +131,7 @@ module _ (κs : Lfts 2) (state : State) (heap : MutLoan) (map : Loan) (a k v : �
 
   -- The contract of write.
   abbrev pub write_contract : Contract Written
-  write_contract = record { asks = write.Reads.Asked κs write_begin; allows = λ x. write.Reads.Learnt κs write_begin x.code (write_end x) }
+  write_contract = record { asks = write.Reads.Asked κs write_begin; allows = λ x. (r : Result Unit Refusal) × (code_told r ≡ x.code) × write.Reads.Learnt κs write_begin r (write_end x) }
 
 module _ (κs : Lfts 1) (state : State) (list : Loan) where
   -- What survey is handed.
@@ -138,7 +144,7 @@ module _ (κs : Lfts 1) (state : State) (list : Loan) where
 
   -- The contract of survey.
   abbrev pub survey_contract : Contract Surveyed
-  survey_contract = record { asks = survey.Reads.Asked κs survey_begin; allows = λ x. survey.Reads.Learnt κs survey_begin x survey_end }
+  survey_contract = record { asks = survey.Reads.Asked κs survey_begin; allows = λ x. (r : Result Figures Refusal) × (survey_told r ≡ x) × survey.Reads.Learnt κs survey_begin r survey_end }
 
 module _ (κs : Lfts 2) (text : Loan) (out : MutLoan) where
   -- What the text program's `answer` is handed.

@@ -3,13 +3,10 @@ use Rattle.std.specs.Prelude.{ℕ, ◌≡◌, true, List, [], ◌∷◌, length,
 use Rattle.words.specs.Map.{is_start}
 use Rattle.layout.specs.SetUp.{Prepared, sets_up}
 use Rattle.layout.specs.declared.State.{State}
-use Rattle.collector.specs.Collect.{Left, collects}
-use Rattle.collector.specs.declared.Collected.{Collected}
+use Rattle.collector.specs.Collect.{Collected, Left, collects}
 use Rattle.store.specs.Allot.{Allotment, allots}
-use Rattle.store.specs.Fields.{word_of, Written, reads, writes}
-use Rattle.store.specs.Survey.{surveys}
-use Rattle.store.specs.declared.fields.Reading.{Reading}
-use Rattle.store.specs.declared.surveys.Surveyed.{Surveyed}
+use Rattle.store.specs.Fields.{Reading, word_of, Written, reads, writes}
+use Rattle.store.specs.Survey.{Surveyed, surveys}
 
 -- What each call gets from the last one: the heap, the state, and the buffers.
 pub record World : Type 0 where

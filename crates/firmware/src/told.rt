@@ -31,14 +31,7 @@ pub(crate) fn set_up(answer: Result<State, Refusal>) -> (u32, State)
 {
     match answer {
         Ok(state) => (0, state),
-        Err(refusal) => {
-            let none = State {
-                words: 0,
-                keep: 0,
-                count: 0,
-            };
-            (refusal.number(), none)
-        }
+        Err(refusal) => (refusal.number(), State::default()),
     }
 }
 

@@ -1,6 +1,6 @@
 -- Laws of set-up: its first list, and its ways out.
 use Prim.Native.Nat.{ℕ, suc, ◌-◌, ◌≤◌, ◌<◌}
-use Rattle.std.specs.Prelude.{◌≡◌, refl, ◌≢◌, true, ◌&&◌, List, [], ◌++◌, length, set, take, drop, replicate, leb, Result, Ok, Err}
+use Rattle.std.specs.Prelude.{◌≡◌, ◌≢◌, true, List, [], ◌++◌, length, set, take, drop, replicate, Result, Ok, Err}
 use Rattle.std.proofs.Common.{ap, le-div_iff_mul-le}
 use Rattle.std.proofs.Math.Nat.{sub-zero}
 use native.Mathlib.Omega.{arith}
@@ -10,11 +10,10 @@ use Rattle.layout.specs.Intervals.{flat, shown}
 use Rattle.layout.specs.Limits.{within, map_words, stack_words, list_room, list_words, rooms_of}
 use Rattle.layout.specs.LimitsLaws.{map_zero, allowed, map_needs, list_needs}
 use Rattle.layout.specs.declared.Rooms.{Rooms}
-use Rattle.layout.specs.RefusalLaws.{by_test, number_some, number_one}
-use Rattle.layout.specs.SetUp.{Prepared, prepared, first_list, SetUp, set_up_refused, set_up_told, sets_up}
+use Rattle.layout.specs.RefusalLaws.{number_some, number_one}
+use Rattle.layout.specs.SetUp.{prepared, first_list, SetUp, set_up_refused, set_up_told, sets_up}
 use Rattle.layout.specs.declared.State.{State}
 use Rattle.layout.specs.declared.refusal.Refusal.{Refusal}
-use Rattle.layout.specs.declared.refusal.Refusal.TheVariants.{Limits as OutOfLimits, Room}
 
 -- A heap with fewer words than the keep length has no list.
 pub first_none : (h t : ℕ) → h - 1 < t → first_list h t ≡ []
@@ -89,12 +88,3 @@ set_up_one (Ok s) (Ok t) e = ap Ok (ap (λ (a : SetUp). a.state) e)
 set_up_one (Ok s) (Err r) e = absurd (omega (arith, number_some r, ap (λ (a : SetUp). a.code) e))
 set_up_one (Err r) (Ok s) e = absurd (omega (arith, number_some r, ap (λ (a : SetUp). a.code) e))
 set_up_one (Err r) (Err q) e = ap Err (number_one r q (ap (λ (a : SetUp). a.code) e))
-
--- What set-up answers is told of an answer.
-pub set_up_tells : (heap : List ℕ) (t : ℕ) (map list : List ℕ) → (x : Result State Refusal) × (set_up_told x ≡ (sets_up heap t map list).answer)
-unfolding sets_up
-set_up_tells heap t map list =
-    let Told : Prepared → Type 0 = λ p. (x : Result State Refusal) × (set_up_told x ≡ p.answer) in
-    by_test Told (within (length heap) t)
-    (λ ok. by_test Told (leb (map_words (length heap)) (length map) && leb (list_words (length heap) t) (length list)) (λ fit. (Ok _, refl)) (λ short. (Err Room, refl)))
-    (λ bad. (Err OutOfLimits, refl))

@@ -53,8 +53,9 @@ pub struct Interval {
     pub size: usize,
 }
 
-// What a caller hands in and gets back: the heap's words, the keep length and the list's count.
-#[derive(Clone, Copy)]
+// What a caller hands in and gets back: the heap's words, the keep length and the list's count. By default it is that of a refused
+// set-up, zeros.
+#[derive(Clone, Copy, Default)]
 pub struct State {
     pub words: usize,
     pub keep: usize,

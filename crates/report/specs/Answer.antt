@@ -3,11 +3,11 @@ use Rattle.std.specs.Prelude.{ℕ, List, ◌++◌, length, drop, replicate, leb,
 use Rattle.layout.specs.Refusal.{unless}
 use Rattle.layout.specs.SetUp.{Prepared, sets_up}
 use Rattle.collector.specs.Collect.{Left, collects}
-use Rattle.collector.specs.declared.Collected.{Collected}
+use Rattle.collector.specs.Collect.{Collected}
 use Rattle.freelist.specs.Records.{records}
 use Rattle.freelist.specs.declared.figures.Figures.{Figures}
 use Rattle.store.specs.Survey.{surveys}
-use Rattle.store.specs.declared.surveys.Surveyed.{Surveyed}
+use Rattle.store.specs.Survey.{Surveyed}
 use Rattle.image.specs.Ascii.{ascii}
 use Rattle.image.specs.Image.{Text, right, wrong, text_of}
 use Rattle.report.specs.Printed.{said, free_lines}

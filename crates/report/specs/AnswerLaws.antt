@@ -7,17 +7,17 @@ use borrow.Author.Tests.{le-leb, lt-leb, eqb-true, eq-eqb, ne_eqb}
 use Rattle.layout.specs.LimitsLaws.{list_small}
 use Rattle.layout.specs.RefusalLaws.{by_test}
 use Rattle.layout.specs.SetUp.{Prepared, prepared, sets_up}
-use Rattle.layout.specs.declared.SetUp.{SetUp}
+use Rattle.layout.specs.SetUp.{SetUp}
 use Rattle.layout.specs.declared.State.{State}
 use Rattle.collector.proofs.CollectLaws.{collects_words}
 use Rattle.collector.specs.Collect.{Left, left, collects}
-use Rattle.collector.specs.declared.Collected.{Collected}
+use Rattle.collector.specs.Collect.{Collected}
 use Rattle.freelist.specs.Records.{records}
 use Rattle.freelist.specs.RecordsLaws.{length-records}
 use Rattle.freelist.specs.declared.figures.Figures.{Figures}
 use Rattle.store.specs.Survey.{surveys}
 use Rattle.store.proofs.SurveyLaws.{Surveyable, surveyable}
-use Rattle.store.specs.declared.surveys.Surveyed.{Surveyed}
+use Rattle.store.specs.Survey.{Surveyed}
 use Rattle.image.specs.Ascii.{ascii}
 use Rattle.image.specs.SoFar.{wrong_line, shows_text}
 use Rattle.image.specs.Image.{max_heap, Text, right, wrong, text_of}

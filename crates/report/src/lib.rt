@@ -5,20 +5,18 @@ mod put;
 
 ghost use Rattle.std.specs.Prelude.{◌≡◌, ◌*◌, ◌≤◌, length};
 ghost use Rattle.freelist.specs.Records.{records};
+ghost use Rattle.collector.specs.Collect.{collect_told};
 ghost use Rattle.report.specs.Answer.{code_lines, count_lines, lines_after, image_lines, answer, output, reports};
 ghost use Rattle.report.specs.Printed.{free_lines};
 ghost use Rattle.report.specs.Written.{Writes};
 
 use crate::put::Writer;
-use collector::Collected;
+use collector::{Collection, Refused};
 use freelist::{Figures, records};
-use layout::State;
+use layout::{Refusal, State};
 
 // How many bytes to lend for an answer.
 pub const ANSWER_ROOM: usize = 65536;
-
-// The code of a text that is no image.
-const WRONG_TEXT: usize = 12;
 
 // The answer to a text, at the front of the output buffer, and its length; 0 and no byte where the buffer is too short.
 pub fn answer(text: &[u8], out: &mut [u8]) -> usize
@@ -40,7 +38,7 @@ fn text_lines(to: &mut Writer<'_>, text: &[u8])
     let mut heap = [0u32; 4096];
     match image::read(text, &mut roots, &mut heap) {
         Ok(got) => image_lines(to, &heap[..got.words], got.keep, &roots[..got.roots]),
-        Err(wrong) => code_lines(to, WRONG_TEXT, wrong.line()),
+        Err(wrong) => code_lines(to, Refusal::Text.number(), wrong.line()),
     }
 }
 
@@ -51,37 +49,45 @@ fn image_lines(to: &mut Writer<'_>, heap: &[u32], keep: usize, roots: &[u32])
     let mut map = [0u32; 128];
     let mut stack = [0u32; 4095];
     let mut list = [0u32; 8190];
-    let fresh = State::set_up(heap, keep, &mut map, &mut list);
-    let found = collector::collect(fresh.state, heap, roots, &mut map, &mut stack, &mut list);
+    let fresh = State::set_up(heap, keep, &mut map, &mut list).unwrap_or_default();
+    let found = collector::collect(fresh, heap, roots, &mut map, &mut stack, &mut list);
     lines_after(to, found, &list);
 }
 
-// Prints what a collection has answered, and surveys the list that it left.
-fn lines_after(to: &mut Writer<'_>, found: Collected, list: &[u32])
-    ensures { Writes to.old (lines_after found list.now) to.new }
+// Prints what a collection has answered.
+fn lines_after(to: &mut Writer<'_>, found: Result<Collection, Refused>, list: &[u32])
+    ensures { Writes to.old (lines_after (collect_told found) list.now) to.new }
 {
-    if found.code != 0 {
-        return code_lines(to, found.code as usize, found.place);
+    match found {
+        Ok(found) => found_lines(to, found, list),
+        Err(refused) => code_lines(to, refused.fault.refusal.number(), refused.fault.place),
     }
-    let surveyed = store::survey(found.state, list);
-    if surveyed.code != 0 {
-        return code_lines(to, surveyed.code as usize, 0);
+}
+
+// Surveys the list that a collection left, and prints what both have found.
+fn found_lines(to: &mut Writer<'_>, found: Collection, list: &[u32])
+    ensures { Writes to.old (lines_after (collect_told (Ok found)) list.now) to.new }
+{
+    match store::survey(found.state, list) {
+        Ok(figures) => {
+            count_lines(to, found, figures);
+            free_lines(to, list, found.state.count);
+        }
+        Err(refusal) => code_lines(to, refusal.number(), 0),
     }
-    count_lines(to, found, surveyed.figures);
-    free_lines(to, list, found.state.count);
 }
 
 // Prints code and where, the lines that come first.
-fn code_lines(to: &mut Writer<'_>, code: usize, place: usize)
+fn code_lines(to: &mut Writer<'_>, code: u32, place: usize)
     ensures { Writes to.old (code_lines code place) to.new }
 {
-    to.said(b"code=", code);
+    to.said(b"code=", code as usize);
     to.said(b"where=", place);
 }
 
 // Prints code and where of a success, the collection's counts and the survey's figures.
-fn count_lines(to: &mut Writer<'_>, found: Collected, figures: Figures)
-    ensures { Writes to.old (count_lines found figures) to.new }
+fn count_lines(to: &mut Writer<'_>, found: Collection, figures: Figures)
+    ensures { Writes to.old (count_lines (collect_told (Ok found)) figures) to.new }
 {
     code_lines(to, 0, 0);
     to.said(b"objects=", found.objects);

@@ -6,4 +6,4 @@ pub returns-in-Ok : goal.returns-in-Ok
 returns-in-Ok c = rw (← answer_right c.args.text.now _ _ c.read.ensures c.in-Ok.is) c.image_lines.ensures
 
 pub returns-in-Err : goal.returns-in-Err
-returns-in-Err c = let f = c.line.ensures in rw (← answer_wrong c.args.text.now _ _ c.read.ensures c.in-Err.is) (rw f at c.code_lines.ensures)
+returns-in-Err c = rw (← answer_wrong c.args.text.now _ _ c.read.ensures c.in-Err.is) (rw (c.number.ensures, c.line.ensures) at c.code_lines.ensures)
