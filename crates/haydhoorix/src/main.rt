@@ -7,7 +7,7 @@ use report::ANSWER_ROOM;
 use std::io;
 use std::io::{Read, Write};
 
-// Reads until the buffer is full or the input ends, and answers how many bytes came.
+// Reads until the buffer is full or the input ends, and answers how many bytes came. The library's `read_to_end` needs a heap.
 fn read_input<R: Read>(from: &mut R, text: &mut [u8]) -> io::Result<usize>
     ensures { IfOk result (λ n. n ≤ length text.new) }
 {

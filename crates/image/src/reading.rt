@@ -18,7 +18,7 @@ const MAX_HEAP: usize = 4096;
 // The most roots of an image.
 const MAX_IMAGE_ROOTS: usize = 1024;
 
-// Why a text is no image: it is too long, or the line of this number is its first wrong one.
+// Why a text is no image: it is too long, or the line of this number is the first wrong one.
 #[derive(Clone, Copy, Debug, PartialEq, Eq)]
 pub enum WrongText {
     TooLong,
@@ -128,7 +128,7 @@ fn take_word(mut got: SoFar, pair: Option<(u32, u32)>, heap: &mut [u32]) -> Opti
     Some(got)
 }
 
-// One line more: its key says what the part after the equals sign is.
+// One line more: its key says what the part after the equals sign is, which is lent by itself, a slice that starts in the line.
 fn take(got: SoFar, line: &[u8], roots: &mut [u32], heap: &mut [u32]) -> Option<SoFar>
     requires { LineFits got roots.old heap.old }
     ensures { shows_next result roots.new heap.new ≡ takes_line (shows got roots.old heap.old) line.now }

@@ -20,14 +20,14 @@ spare_place zero n h = rw (lt-ltb n 10 h)
 spare_place (suc f) n h = rw (spare_place f (n / 10) (omega (arith, pow-suc 10 (suc f))))
 
 -- A number below 10 is its last decimal.
-pub spells_last : (n : ℕ) → n < 10 → (48 + n % 10) ∷ [] ≡ decimals n
+pub decimals_last : (n : ℕ) → n < 10 → (48 + n % 10) ∷ [] ≡ decimals n
 unfolding spelled
-spells_last n l = rw (lt-ltb n 10 l)
+decimals_last n l = rw (lt-ltb n 10 l)
 
 -- Any other has the decimals of its tenth before that one.
-pub spells_more : (n : ℕ) → 10 ≤ n → n < 2 ^ 64 → decimals (n / 10) ++ (48 + n % 10) ∷ [] ≡ decimals n
+pub decimals_more : (n : ℕ) → 10 ≤ n → n < 2 ^ 64 → decimals (n / 10) ++ (48 + n % 10) ∷ [] ≡ decimals n
 unfolding spelled
-spells_more n l h = rw (le-ltb n 10 l, spare_place 18 (n / 10) (omega arith))
+decimals_more n l h = rw (le-ltb n 10 l, spare_place 18 (n / 10) (omega arith))
 
 -- A number is spelled in no more places than it is given.
 decimals_places : (f n : ℕ) → length (spelled f n) ≤ f

@@ -99,7 +99,7 @@ fn count_lines(to: &mut Writer<'_>, found: Collection, figures: Figures)
     to.said(b"fragment=", figures.fragment);
 }
 
-// Prints a line for each interval of the list.
+// Prints a line for each interval of the list. They go by number: an interval is two words, which `records::at` reads.
 fn free_lines(to: &mut Writer<'_>, list: &[u32], count: usize)
     requires { 2 * count ≤ length list.now }
     ensures { Writes to.old (free_lines (records count list.now)) to.new }

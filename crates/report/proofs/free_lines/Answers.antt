@@ -5,9 +5,6 @@ use Rattle.report.specs.Printed.{free_lines}
 use Rattle.report.specs.WrittenLaws.{writes_none, writes_then}
 use Rattle.report.proofs.free_lines.Goals as goal
 
-pub loop-j-init : goal.loop-j-init
-loop-j-init c = λ after e. e
-
 pub loop-j-preserved : goal.loop-j-preserved
 unfolding free_lines
 loop-j-preserved c =

@@ -2,7 +2,7 @@
 use Rattle.std.proofs.Common.{◌≡◌, ◌+◌, refl, ◌∙◌, arith}
 use Rattle.std.proofs.lemmas.Result.{err_from_is_err_and}
 use Rattle.image.specs.declared.reading.WrongText.TheVariants.{Line}
-use Rattle.image.specs.ReadingLaws.{text_long, text_begins, text_ends, line_fits, line_stops, next_inside, line_goes}
+use Rattle.image.specs.ReadingLaws.{text_long, text_begins, text_ends, line_stops, next_inside, line_goes}
 use Rattle.image.proofs.reading.read.Goals as goal
 
 pub returns-then-text-gt-MAX_TEXT : goal.returns-then-text-gt-MAX_TEXT
@@ -13,12 +13,6 @@ loop-line-init c =
     let t = c.args in
     let begins = text_begins t.text.now t.roots.now t.heap.now (c.none_read-got.ensures t.roots.now t.heap.now) (omega arith) c.requires.0 c.requires.1 in
     (rw c.new-lines.ensures.1 begins, rw c.new-lines.ensures.0 refl, refl, refl)
-
-pub take-requires : goal.take-requires
-take-requires c = let h = c.loop-line.invariant in line_fits h.0 (rw h.1 at c.in-Some.ensures.moves.0)
-
-pub next_wrong-requires : goal.next_wrong-requires
-next_wrong-requires c = let g = c.loop-line.invariant.0 in omega (arith, g.lines_in, g.short, g.inside)
 
 pub returns-in_err-got : goal.returns-in_err-got
 returns-in_err-got c =
@@ -46,9 +40,6 @@ loop-line-preserved c =
     let came = c.in-Some.ensures.moves in
     let goes = line_goes h.0 (rw h.1 at came.0) (rw h.1 at came.1) c.in_ok-got.ensures.ok_part t.new.roots t.new.heap t.ensures (omega (arith, t.auto.roots, h.0.root_room)) (omega (arith, t.auto.heap, h.0.word_room)) in
     (rw came.2 goes, rw c.in-Some.ensures.same_text h.1, t.auto.roots ∙ h.2, t.auto.heap ∙ h.3)
-
-pub finish-requires : goal.finish-requires
-finish-requires c = let g = c.loop-line.invariant.0 in omega (arith, g.lines_in, g.short, g.inside)
 
 pub returns : goal.returns
 returns c =
