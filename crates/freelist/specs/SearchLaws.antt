@@ -1,7 +1,9 @@
 -- Laws of the searches.
-use Prim.Native.Nat.{ℕ, zero, suc, ◌+◌, ◌≤◌, ◌<◌}
-use Rattle.std.specs.Prelude.{◌≡◌, refl, Bool, true, false, cond, List, [], ◌∷◌, length, drop, Option, Some, None}
-use Rattle.std.proofs.Common.{sym, ap, subst, ◌∙◌}
+use Prim.Native.Nat.{ℕ, zero, suc, ◌+◌, ◌*◌, ◌≤◌, ◌<◌}
+use Rattle.std.specs.Prelude.{◌≡◌, refl, Bool, true, false, cond, List, [], ◌∷◌, length, get_or, take, drop, leb, Option, Some, None}
+use Rattle.std.proofs.Common.{sym, ap, subst, ◌∙◌, get_or-take, get_or-drop, drop-drop, length-take}
+use Rattle.std.specs.Simd.{first_chunks}
+use Rattle.std.specs.List.Sorted.{IsPartitionedBy, IsPartitionPoint}
 use Rattle.std.proofs.Math.Bool.{and-eq-true_iff, and-false}
 use native.Mathlib.Omega.{arith}
 use Rattle.std.proofs.Math.Decide.{dec_le, ℕ_discrete}
@@ -172,3 +174,57 @@ holding_left a s n list lo hi e sorted inside near low high test =
     let same : length (records n list) ≡ n = length-records n list in
     let here : interval_at (records n list) lo ≡ record_at list lo = record_at_lem n list lo inside in
     rw (← test, e ∙ sym here) (holder_left a s (records n list) lo hi sorted (omega arith) near (λ x. rw here (low x)) (λ x. rw (record_at_lem n list hi (omega arith)) (high (omega arith))))
+
+-- The pairs of words that stand for records.
+
+-- A pair starts at a or before it.
+abbrev pub starts_by : ℕ → List ℕ → Bool
+starts_by a pair = leb (get_or pair 0 0) a
+
+-- The pair at a place has the two words of its record.
+pair_at : (k : ℕ) (list : List ℕ) (i : ℕ) (d : List ℕ) → i < k → get_or (first_chunks 2 k list) i d ≡ take 2 (drop (2 * i) list)
+pair_at zero list i d h = absurd (omega arith)
+pair_at (suc k) list zero d h = refl
+pair_at (suc k) list (suc i) d h =
+    let e : 2 * suc i ≡ 2 + 2 * i = omega arith in
+    pair_at k (drop 2 list) i d (omega arith) ∙ ap (λ (l : List ℕ). take 2 l) (rw e (drop-drop (2 * i) 2 list))
+
+-- So it starts where its record does.
+pair_start : (n k : ℕ) (list : List ℕ) (i : ℕ) (d : List ℕ) → n ≤ k → i < n → get_or (get_or (take n (first_chunks 2 k list)) i d) 0 0 ≡ (record_at list i).start
+pair_start n k list i d few h =
+    let here : 2 * i + 0 ≡ 2 * i = omega arith in
+    ap (λ (p : List ℕ). get_or p 0 0) (get_or-take n (first_chunks 2 k list) i d h ∙ pair_at k list i d (omega arith))
+    ∙ get_or-take 2 (drop (2 * i) list) 0 0 (omega arith) ∙ get_or-drop (2 * i) list 0 0 ∙ ap (λ (m : ℕ). get_or list m 0) here
+
+-- The pairs of a sorted list are parted by where they start.
+pub pairs_parted : (a n k : ℕ) (list : List ℕ) → n ≤ k → Sorted (records n list) → IsPartitionedBy (starts_by a) (take n (first_chunks 2 k list))
+pairs_parted a n k list few sorted i j d order there p =
+    let inside : j < n = omega (arith, length-take n (first_chunks 2 k list)) in
+    let start : (record_at list j).start ≤ a = rw (pair_start n k list j d few inside) at (leb-true _ a p) in
+    elim (ℕ_discrete i j) [
+      | yes same ↦ subst (λ (m : ℕ). starts_by a (get_or (take n (first_chunks 2 k list)) m d) ≡ true) (sym same) p
+      | no other ↦
+          let apart = rw (record_at_lem n list i (omega arith), record_at_lem n list j inside) at (sorted i j (omega arith) (omega (arith, length-records n list))) in
+          le-leb _ a (rw (pair_start n k list i d few (omega arith)) (omega arith))
+    ]
+
+-- What the place between the two parts tells of the records on both its sides.
+pub pairs_point : (a n k : ℕ) (list : List ℕ) (b : ℕ) → n ≤ k → length (take n (first_chunks 2 k list)) ≡ n → IsPartitionPoint (λ y. starts_by a y ≡ true) (λ y. starts_by a y ≡ false) (take n (first_chunks 2 k list)) b
+    → ((j : ℕ) → j < b → j < n → (record_at list j).start ≤ a) × (b < n → a < (record_at list b).start)
+pairs_point a n k list b few long point = (
+  λ j low inside. rw (pair_start n k list j [] few inside) at (leb-true _ a (point.0 j [] (omega arith) low)),
+  λ inside. rw (pair_start n k list b [] few inside) at (leb-false _ a (point.1 b [] (omega arith) (omega arith))),
+)
+
+-- Where the first record starts behind a, none holds the words.
+pub holding_none : (a s n : ℕ) (list : List ℕ) → Sorted (records n list) → (0 < n → a < (record_at list 0).start) → holder a s (records n list) ≡ None
+unfolding holder
+holding_none a s n list sorted first = tells_first (contains a s) 0 (records n list) None every
+  where
+    every : (m : ℕ) → m < length (records n list) → contains a s (interval_at (records n list) m) ≡ false
+    every zero h = behind_contains a s (interval_at (records n list) 0) (rw (record_at_lem n list 0 (omega (arith, length-records n list))) (first (omega (arith, length-records n list))))
+    every (suc m) h =
+        let n1 = length-records n list in
+        let apart = sorted 0 (suc m) (omega arith) h in
+        let low : a < (interval_at (records n list) 0).start = rw (record_at_lem n list 0 (omega arith)) (first (omega arith)) in
+        behind_contains a s (interval_at (records n list) (suc m)) (omega arith)

@@ -4,6 +4,7 @@ ghost use Rattle.freelist.specs.Records.{records};
 ghost use Rattle.freelist.specs.Search.{Sorted, fitting, holder};
 
 use crate::records;
+use words::wide;
 
 // The record that an allot of s words takes: the first that has them.
 pub fn fitting(list: &[u32], count: usize, s: usize) -> Option<usize>
@@ -27,26 +28,12 @@ pub fn holding(list: &[u32], count: usize, a: usize, s: usize) -> Option<usize>
     requires { (2 * count ≤ length list.now) × (a + s < 4294967296) × Sorted (records count list.now) }
     ensures { result ≡ holder a s (records count list.now) }
 {
-    if count == 0 {
-        return None;
-    }
-    let mut lo = 0;
-    let mut hi = count;
-    while 1 < hi - lo {
-        let mid = lo + (hi - lo) / 2;
-        let record = records::at(list, mid);
-        let start = record.start;
-        if start <= a {
-            lo = mid;
-        } else {
-            hi = mid;
-        }
-    }
-    let record = records::at(list, lo);
-    let start = record.start;
-    let size = record.size;
-    if (start <= a) & (a + s <= start + size) {
-        Some(lo)
+    let (pairs, _) = list.as_chunks::<2>();
+    let behind = pairs[..count].partition_point(|pair| wide(pair[0]) <= a);
+    let j = behind.checked_sub(1)?;
+    let record = records::at(list, j);
+    if a + s <= record.start + record.size {
+        Some(j)
     } else {
         None
     }
