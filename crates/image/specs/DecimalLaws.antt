@@ -95,11 +95,11 @@ second_wrong (Some n) = refl
 second_wrong None = refl
 
 -- Without a comma there is no pair.
-pub pair_refused : (part : List ℕ) → position (λ b. eqb b 44) part ≡ None → None ≡ pair_of part
+pub pair_unparted : (part : List ℕ) → position (λ b. eqb b 44) part ≡ None → None ≡ pair_of part
 unfolding pair_of decimal_of is_plain
-pair_refused part e = rw (drop_of_length-le part {i = suc (index_of 44 part)} (omega (arith, place_missing 44 part e))) (second_wrong (decimal_of (take (index_of 44 part) part)))
+pair_unparted part e = rw (drop_of_length-le part {i = suc (index_of 44 part)} (omega (arith, place_missing 44 part e))) (second_wrong (decimal_of (take (index_of 44 part) part)))
 
 -- With one there are two parts.
-pub pair_read : (part : List ℕ) {c : ℕ} → position (λ b. eqb b 44) part ≡ Some c → option_zip (decimal_of (take c part)) (decimal_of (drop (c + 1) part)) ≡ pair_of part
+pub pair_parted : (part : List ℕ) {c : ℕ} → position (λ b. eqb b 44) part ≡ Some c → option_zip (decimal_of (take c part)) (decimal_of (drop (c + 1) part)) ≡ pair_of part
 unfolding pair_of
-pair_read part e = rw ((place_found 44 part e).0, add-one (index_of 44 part))
+pair_parted part e = rw ((place_found 44 part e).0, add-one (index_of 44 part))
