@@ -73,11 +73,11 @@ impl<'a> Player<'a> {
         let old = self.slots[i];
         let at = wide(old);
         let new = heaps::cut(a);
-        let is_kept = (old != 0) & !turn.is_loss;
-        if is_kept & is_reference(self.heap, at, 8) & turn.is_put_anywhere() {
+        let is_kept = old != 0 && !turn.is_loss;
+        if is_kept && is_reference(self.heap, at, 8) && turn.is_put_anywhere() {
             let k = turn.field(Oddity::Nothing, true, self.heap, at);
             self.write(at, k, new);
-        } else if is_reference(self.heap, a, 0) & turn.is_put_before() {
+        } else if is_reference(self.heap, a, 0) && turn.is_put_before() {
             self.write(a, 0, old);
             self.slots[i] = new;
         } else if is_kept {
@@ -103,9 +103,9 @@ impl<'a> Player<'a> {
         let a = turn.address(oddity, &self.slots, words);
         let k = turn.field(oddity, true, self.heap, a);
         let j = turn.other_slot(words);
-        let is_free = (self.slots[j] == 0) | turn.is_loss;
+        let is_free = self.slots[j] == 0 || turn.is_loss;
         if let Some(value) = self.read(a, k) {
-            if is_free & is_reference(self.heap, a, k) {
+            if is_free && is_reference(self.heap, a, k) {
                 self.slots[j] = value;
             }
         }
@@ -153,7 +153,7 @@ impl<'a> Player<'a> {
             90..=94 => self.survey(),
             _ => self.drop_one(turn),
         }
-        if (self.heap.len() < 1024) & turn.is_summed() {
+        if self.heap.len() < 1024 && turn.is_summed() {
             self.digest_sums();
         }
     }

@@ -9,7 +9,7 @@ use std::io::Write;
 // What a line gives: the words of the heap, the keep length, how many words more than needed are lent of map, stack and list, how
 // many turns there are, the seed, and in how many turns there is one of loss.
 #[derive(Clone, Copy)]
-struct Row {
+struct Plan {
     words: usize,
     keep: usize,
     more: Rooms,
@@ -18,10 +18,11 @@ struct Row {
     seldom: usize,
 }
 
-impl From<[usize; 48]> for Row {
-    fn from(place: [usize; 48]) -> Row {
+// What the places of a line say.
+impl From<[usize; 48]> for Plan {
+    fn from(place: [usize; 48]) -> Plan {
         let [_, words, keep, map, stack, list, seed, turns, seldom, ..] = place;
-        Row {
+        Plan {
             words,
             keep,
             more: Rooms { map, stack, list },
@@ -40,10 +41,10 @@ fn lent(needed: usize, more: usize) -> usize
 }
 
 // A history in parts of buffers full of junk, set up once: prints the book, and sums over all words lent of heap, map, stack and list.
-fn history<W: Write>(out: &mut W, row: Row) -> io::Result<()> {
-    let words = heaps::part(row.words);
-    let rooms = Rooms::of(words, row.keep);
-    let more = row.more;
+fn history<W: Write>(out: &mut W, plan: Plan) -> io::Result<()> {
+    let words = heaps::part(plan.words);
+    let rooms = Rooms::of(words, plan.keep);
+    let more = plan.more;
     let mut heap = heaps::junk();
     let mut map = heaps::junk();
     let mut stack = heaps::junk();
@@ -54,8 +55,8 @@ fn history<W: Write>(out: &mut W, row: Row) -> io::Result<()> {
         &mut stack[..lent(rooms.stack, more.stack)],
         &mut list[..lent(rooms.list, more.list)],
     );
-    player.set_up(row.keep);
-    player.play(row.turns, row.seed, row.seldom);
+    player.set_up(plan.keep);
+    player.play(plan.turns, plan.seed, plan.seldom);
     player.book.print(out)?;
     lines::numbers(out, &player.sums(), b" ")
 }
@@ -65,7 +66,7 @@ pub(crate) fn all<W: Write>(out: &mut W, text: &[u8]) -> io::Result<()> {
     let mut at = 0;
     while at < text.len() {
         let line = lines::printed(out, text, at)?;
-        history(out, Row::from(line.place))?;
+        history(out, Plan::from(line.place))?;
         lines::end(out)?;
         at = line.end + 1;
     }
