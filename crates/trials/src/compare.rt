@@ -37,18 +37,20 @@ pub(crate) struct Trial {
 }
 
 // The numbers that a collection answered.
-fn numbers(got: Collected) -> Answer {
-    let state = got.state;
-    Answer {
-        code: got.code as usize,
-        place: got.place,
-        objects: got.objects,
-        live: got.live,
-        references: got.references,
-        peak: got.peak,
-        words: state.words,
-        keep: state.keep,
-        count: state.count,
+impl From<Collected> for Answer {
+    fn from(got: Collected) -> Answer {
+        let state = got.state;
+        Answer {
+            code: got.code as usize,
+            place: got.place,
+            objects: got.objects,
+            live: got.live,
+            references: got.references,
+            peak: got.peak,
+            words: state.words,
+            keep: state.keep,
+            count: state.count,
+        }
     }
 }
 
@@ -70,7 +72,7 @@ fn collected(
     let mut list = vec![in alloc; image.junk; lent.list]?;
     let got = collector::collect(state, heap, roots, &mut map, &mut stack, &mut list);
     Ok(Outcome {
-        answer: numbers(got),
+        answer: Answer::from(got),
         map,
         stack,
         list,

@@ -15,10 +15,10 @@ pub(crate) enum Kind {
     Fan,
 }
 
-impl Kind {
-    // The letter of a kind.
-    pub(crate) fn letter(self) -> u8 {
-        match self {
+// The letter of a kind.
+impl From<Kind> for u8 {
+    fn from(kind: Kind) -> u8 {
+        match kind {
             Kind::Random => b'r',
             Kind::Onward => b'o',
             Kind::Back => b'b',
@@ -62,6 +62,7 @@ pub(crate) const GROUPS: [(Kind, [usize; 8]); 17] = [
     (Kind::Fan, [300, 8, 2, 2, 4, 0, 0, 0]),
 ];
 
+// What the kind and the numbers of a group say.
 impl From<(Kind, [usize; 8])> for Group {
     fn from(of: (Kind, [usize; 8])) -> Group {
         let (kind, [words, keep, roots, overwritten, a, b, c, d]) = of;
@@ -94,7 +95,7 @@ pub(crate) fn run<W: Write>(
         }
     }
     let (kind, numbers) = *group;
-    out.write_all(&[kind.letter()])?;
+    out.write_all(&[u8::from(kind)])?;
     lines::numbers(out, &numbers, b" ")?;
     book.print(out)?;
     lines::end(out)

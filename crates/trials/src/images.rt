@@ -143,7 +143,7 @@ impl Image {
         place[1] = self.words;
         place[2] = self.keep;
         place[9..14].copy_from_slice(&self.told);
-        heaps::lay(self.kind.letter(), place, heap, roots);
+        heaps::lay(u8::from(self.kind), place, heap, roots);
         overwrite(heap, self.overwritten, self.seed);
     }
 }

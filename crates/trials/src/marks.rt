@@ -20,12 +20,14 @@ pub(crate) enum Fault {
     NoMemory(AllocError),
 }
 
+// No memory for the marks.
 impl From<AllocError> for Fault {
     fn from(e: AllocError) -> Fault {
         Fault::NoMemory(e)
     }
 }
 
+// No memory for an object put off.
 impl<T: Drop> From<AllocFailed<T>> for Fault {
     fn from(e: AllocFailed<T>) -> Fault {
         Fault::NoMemory(AllocError::from(e))
@@ -78,7 +80,7 @@ impl<'a> Marking<'a> {
         let size = header % 65536;
         let refs = header / 65536;
         let end = w.checked_add(size)?;
-        let is_formed = (self.keep <= size) & (refs < size) & (end <= self.heap.len());
+        let is_formed = self.keep <= size && refs < size && end <= self.heap.len();
         is_formed.then_some(end)
     }
 
