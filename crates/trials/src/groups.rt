@@ -85,9 +85,10 @@ pub(crate) fn run<W: Write>(
     group: &(Kind, [usize; 8]),
     row: &mut usize,
 ) -> io::Result<()> {
+    let of = Group::from(*group);
     let mut book = Book::default();
     for i in 0..500 {
-        let image = Image::draw(row, &Group::from(*group));
+        let image = Image::draw(row, &of);
         let trial = Trial::run(alloc, &image, None)?;
         book.note(&trial.answer);
         if let Some(which) = trial.differs {

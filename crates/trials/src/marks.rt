@@ -129,7 +129,8 @@ impl<'a> Marking<'a> {
         Ok(())
     }
 
-    // Meets the references of objects put off until there are none. No more objects are put off than there are words.
+    // Meets the references of objects put off until there are none: no more are put off than there are words, so as many turns are
+    // enough.
     fn meet_later(&mut self) -> Result<(), Fault> {
         for _ in 0..self.heap.len() {
             let Some(a) = self.later.pop() else {
