@@ -1,86 +1,126 @@
-// The book of a history, a number in each place. Places 0 to 2 count allots that gave 0, 7 and 8; 3 to 5 reads that gave 0, 9
-// and 10; 6 to 9 writes that gave 0, 9, 10 and 11; 10 collections, 11 surveys and 12 set-ups that gave 0; 13 all calls that gave
-// anything else. Places 14 to 16 add up the objects, live words and references of all collections, 17 has the greatest peak, and
-// 18 a digest of every answer.
-ghost use Rattle.std.specs.Prelude.{◌<◌, ◌≤◌};
-
+// The book of a history: how often each call gave each number, sums over all collections, and a digest of every answer.
 use std::io;
 use std::io::Write;
 
-// The place where calls are counted that have such a letter and gave such a number.
-fn place(kind: u8, code: u32) -> usize
-    ensures { result ≤ 13 }
-{
-    match kind {
-        b'a' => match code {
-            0 => 0,
-            7 => 1,
-            8 => 2,
-            _ => 13,
-        },
-        b'r' => match code {
-            0 => 3,
-            9 => 4,
-            10 => 5,
-            _ => 13,
-        },
-        b'w' => match code {
-            0 => 6,
-            9 => 7,
-            10 => 8,
-            11 => 9,
-            _ => 13,
-        },
-        _ => whole(kind, code),
+// The calls.
+#[derive(Clone, Copy)]
+pub(crate) enum Call {
+    SetUp,
+    Allot,
+    Read,
+    Write,
+    Collect,
+    Survey,
+}
+
+// What a collection that is done has found.
+#[derive(Clone, Copy, Default)]
+pub(crate) struct Finds {
+    pub(crate) objects: usize,
+    pub(crate) live: usize,
+    pub(crate) references: usize,
+    pub(crate) peak: usize,
+}
+
+// The numbers of the book, in the order in which they are printed: calls counted by what they gave, other calls, the finds of all
+// collections added up but for the peak, which is the greatest, and the digest.
+#[derive(Clone, Copy, Default)]
+pub(crate) struct Book {
+    allots: usize,
+    allots_misshapen: usize,
+    allots_without_room: usize,
+    reads: usize,
+    reads_of_no_object: usize,
+    reads_of_no_field: usize,
+    writes: usize,
+    writes_to_no_object: usize,
+    writes_to_no_field: usize,
+    writes_of_no_object: usize,
+    collections: usize,
+    surveys: usize,
+    set_ups: usize,
+    others: usize,
+    finds: Finds,
+    digest: usize,
+}
+
+// Adds to a number of the book.
+fn add(to: &mut usize, n: usize) {
+    *to = to.wrapping_add(n);
+}
+
+impl Book {
+    // Counts a call by the number that it gave.
+    fn count(&mut self, call: Call, code: u32) {
+        let counted = match (call, code) {
+            (Call::Allot, 0) => &mut self.allots,
+            (Call::Allot, 7) => &mut self.allots_misshapen,
+            (Call::Allot, 8) => &mut self.allots_without_room,
+            (Call::Read, 0) => &mut self.reads,
+            (Call::Read, 9) => &mut self.reads_of_no_object,
+            (Call::Read, 10) => &mut self.reads_of_no_field,
+            (Call::Write, 0) => &mut self.writes,
+            (Call::Write, 9) => &mut self.writes_to_no_object,
+            (Call::Write, 10) => &mut self.writes_to_no_field,
+            (Call::Write, 11) => &mut self.writes_of_no_object,
+            (Call::Collect, 0) => &mut self.collections,
+            (Call::Survey, 0) => &mut self.surveys,
+            (Call::SetUp, 0) => &mut self.set_ups,
+            _ => &mut self.others,
+        };
+        add(counted, 1);
     }
-}
 
-// The same for calls that are never refused here: c is a collection, s a survey, any other letter a set-up.
-fn whole(kind: u8, code: u32) -> usize
-    ensures { result ≤ 13 }
-{
-    if code != 0 {
-        return 13;
+    // Adds numbers to the digest.
+    pub(crate) fn digest(&mut self, came: &[usize]) {
+        self.digest = lines::sum_on(self.digest, came);
     }
-    match kind {
-        b'c' => 10,
-        b's' => 11,
-        _ => 12,
+
+    // Notes a call: the number that it gave, and the rest of its answer.
+    pub(crate) fn note(&mut self, call: Call, code: u32, came: &[usize]) {
+        self.count(call, code);
+        self.digest(&[code as usize]);
+        self.digest(came);
     }
-}
 
-// Adds to the number in a place.
-pub(crate) fn add(book: &mut [usize; 19], at: usize, n: usize)
-    requires { at < 19 }
-{
-    book[at] = std::num::wrapping_add_usize(book[at], n);
-}
-
-// Notes a peak.
-pub(crate) fn peak(book: &mut [usize; 19], n: usize) {
-    if book[17] < n {
-        book[17] = n;
+    // Notes what a collection has found.
+    pub(crate) fn found(&mut self, finds: Finds) {
+        let all = &mut self.finds;
+        add(&mut all.objects, finds.objects);
+        add(&mut all.live, finds.live);
+        add(&mut all.references, finds.references);
+        all.peak = all.peak.max(finds.peak);
     }
-}
 
-// Adds numbers to the digest.
-pub(crate) fn digest(book: &mut [usize; 19], came: &[usize]) {
-    book[18] = lines::sum_on(book[18], came);
-}
+    // Whether sums over all words are due: after every collection in a heap of fewer than 1,024 words, and the larger the heap the
+    // more seldom.
+    pub(crate) fn is_due(&self, words: usize) -> bool {
+        self.collections % (words % 1048576 / 1024 + 1) == 0
+    }
 
-// Whether sums over all words are due: after every collection in a heap of fewer than 1,024 words, and the larger the heap the
-// more seldom.
-pub(crate) fn is_due(book: &[usize; 19], words: usize) -> bool {
-    book[10] % (words % 1048576 / 1024 + 1) == 0
-}
-
-// Notes a call: its letter, the number that it gave, and its whole answer.
-pub(crate) fn note(book: &mut [usize; 19], kind: u8, code: u32, came: &[usize]) {
-    add(book, place(kind, code), 1);
-    digest(book, came);
-}
-
-// Prints " gave" and all numbers of the book.
-pub(crate) fn print<W: Write>(out: &mut W, book: &[usize; 19]) -> io::Result<()> {
-    lines::gave(out, book)
+    // Prints " gave" and all numbers of the book.
+    pub(crate) fn print<W: Write>(&self, out: &mut W) -> io::Result<()> {
+        let numbers = [
+            self.allots,
+            self.allots_misshapen,
+            self.allots_without_room,
+            self.reads,
+            self.reads_of_no_object,
+            self.reads_of_no_field,
+            self.writes,
+            self.writes_to_no_object,
+            self.writes_to_no_field,
+            self.writes_of_no_object,
+            self.collections,
+            self.surveys,
+            self.set_ups,
+            self.others,
+            self.finds.objects,
+            self.finds.live,
+            self.finds.references,
+            self.finds.peak,
+            self.digest,
+        ];
+        lines::gave(out, &numbers)
+    }
 }

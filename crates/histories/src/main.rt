@@ -2,10 +2,10 @@
 #![tactic(auto)]
 
 mod book;
-mod choice;
-mod each;
+mod calls;
+mod player;
 mod rows;
-mod turns;
+mod turn;
 
 use std::io;
 

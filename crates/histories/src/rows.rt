@@ -1,78 +1,64 @@
-// A history for each line. A line gives the words of the heap, the keep length, how many words more than needed are lent of map,
-// stack and list, a seed, how many turns there are, and in how many turns there is one of loss.
+// A history for each line.
 ghost use Rattle.std.specs.Prelude.{◌≤◌};
 
-use crate::{book, choice, each, turns};
-use layout::{Rooms, State};
+use crate::player::Player;
+use layout::Rooms;
 use std::io;
 use std::io::Write;
 
-// The turns of a history.
-fn play(
-    place: [usize; 48],
-    set_up: State,
-    slots: &mut [u32; 24],
-    book: &mut [usize; 19],
-    heap: &mut [u32],
-    map: &mut [u32],
-    stack: &mut [u32],
-    list: &mut [u32],
-) {
-    let n = place[7] % 1000000;
-    let seldom = place[8];
-    let mut state = set_up;
-    let mut seed = place[6];
-    for _ in 0..n {
-        let draw = choice::draws(seed);
-        seed = draw[8];
-        let is_loss = heaps::is_time(seed, seldom);
-        state = turns::turn(draw, is_loss, state, slots, book, heap, map, stack, list);
-    }
+// What a line gives: the words of the heap, the keep length, how many words more than needed are lent of map, stack and list, how
+// many turns there are, the seed, and in how many turns there is one of loss.
+#[derive(Clone, Copy)]
+struct Plan {
+    words: usize,
+    keep: usize,
+    more: Rooms,
+    seed: usize,
+    turns: usize,
+    seldom: usize,
 }
 
-// Sets up once and plays. Came: the book; sums over all words lent of heap, map, stack and list.
-fn history<W: Write>(
-    out: &mut W,
-    place: [usize; 48],
-    heap: &mut [u32],
-    map: &mut [u32],
-    stack: &mut [u32],
-    list: &mut [u32],
-) -> io::Result<()> {
-    let mut slots = [0; 24];
-    let mut book = [0; 19];
-    let state = each::set_up(place[2], &mut book, heap, map, list);
-    play(place, state, &mut slots, &mut book, heap, map, stack, list);
-    book::print(out, &book)?;
-    lines::numbers(out, &turns::sums(heap, map, stack, list), b" ")
+// What the places of a line say.
+impl From<[usize; 48]> for Plan {
+    fn from(place: [usize; 48]) -> Plan {
+        let [_, words, keep, map, stack, list, seed, turns, seldom, ..] = place;
+        Plan {
+            words,
+            keep,
+            more: Rooms { map, stack, list },
+            seed,
+            turns: turns % 1000000,
+            seldom,
+        }
+    }
 }
 
 // How many words of a buffer are lent, where so many are needed and so many more are asked for.
 fn lent(needed: usize, more: usize) -> usize
     ensures { result ≤ 131073 }
 {
-    heaps::part(std::num::wrapping_add_usize(needed, more))
+    heaps::part(needed.wrapping_add(more))
 }
 
-// A history in parts of buffers full of junk, as long as a line says.
-fn begin<W: Write>(out: &mut W, place: [usize; 48]) -> io::Result<()> {
-    let h = heaps::part(place[1]);
-    let rooms = Rooms::of(h, place[2]);
-    let m = lent(rooms.map, place[3]);
-    let a = lent(rooms.stack, place[4]);
-    let n = lent(rooms.list, place[5]);
+// A history in parts of buffers full of junk, set up once: prints the book, and sums over all words lent of heap, map, stack and list.
+fn history<W: Write>(out: &mut W, plan: Plan) -> io::Result<()> {
+    let words = heaps::part(plan.words);
+    let rooms = Rooms::of(words, plan.keep);
+    let more = plan.more;
     let mut heap = heaps::junk();
     let mut map = heaps::junk();
     let mut stack = heaps::junk();
     let mut list = heaps::junk();
-    history(
-        out,
-        place,
-        &mut heap[..h],
-        &mut map[..m],
-        &mut stack[..a],
-        &mut list[..n],
-    )
+    let mut player = Player::new(
+        &mut heap[..words],
+        &mut map[..lent(rooms.map, more.map)],
+        &mut stack[..lent(rooms.stack, more.stack)],
+        &mut list[..lent(rooms.list, more.list)],
+    );
+    player.set_up(plan.keep);
+    player.play(plan.turns, plan.seed, plan.seldom);
+    player.book.print(out)?;
+    lines::numbers(out, &player.sums(), b" ")
 }
 
 // All lines, a history each: prints the line, and behind it what came.
@@ -80,8 +66,7 @@ pub(crate) fn all<W: Write>(out: &mut W, text: &[u8]) -> io::Result<()> {
     let mut at = 0;
     while at < text.len() {
         let line = lines::printed(out, text, at)?;
-        let place = line.place;
-        begin(out, place)?;
+        history(out, Plan::from(line.place))?;
         lines::end(out)?;
         at = line.end + 1;
     }

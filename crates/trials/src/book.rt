@@ -1,63 +1,88 @@
-// The book of a group, a number in each column: 0 counts images; 1 to 5 those that gave 0, 4, 5, 6 and any other number; 6 to 9 add
-// up objects, live words, references and peaks; 10 has the greatest peak, and 11 counts images that differ.
-ghost use Rattle.std.specs.Prelude.{◌<◌, ◌≤◌};
-
-use collector::Collected;
+// The book of a group.
+use crate::compare::Answer;
+use crate::difference::Difference;
 use std::io;
 use std::io::Write;
-use std::num::wrapping_add_usize;
 
-// The numbers of the book.
-pub(crate) type Book = [usize; 12];
-
-// The column where images are counted that gave such a number.
-fn column(code: u32) -> usize
-    ensures { result ≤ 5 }
-{
-    match code {
-        0 => 1,
-        4 => 2,
-        5 => 3,
-        6 => 4,
-        _ => 5,
-    }
+// The numbers of the book, in the order in which they are printed: images; those that gave 0, 4, 5, 6 and any other number; sums of
+// objects, live words, references and peaks; the greatest peak; and images that differ.
+#[derive(Clone, Copy, Default)]
+pub(crate) struct Book {
+    images: usize,
+    sound: usize,
+    outside: usize,
+    malformed: usize,
+    overlapping: usize,
+    others: usize,
+    objects: usize,
+    live: usize,
+    references: usize,
+    peaks: usize,
+    peak: usize,
+    differing: usize,
 }
 
-// Adds to the number in a column.
-fn add(book: &mut Book, at: usize, n: usize)
-    requires { at < 12 }
-{
-    book[at] = wrapping_add_usize(book[at], n);
+// Adds to a number of the book.
+fn add(to: &mut usize, n: usize) {
+    *to = to.wrapping_add(n);
 }
 
-// Notes what a collection answered.
-pub(crate) fn note(book: &mut Book, got: Collected) {
-    add(book, 0, 1);
-    add(book, column(got.code), 1);
-    add(book, 6, got.objects);
-    add(book, 7, got.live);
-    add(book, 8, got.references);
-    add(book, 9, got.peak);
-    if book[10] < got.peak {
-        book[10] = got.peak;
+impl Book {
+    // Counts an image by the number that its collection gave.
+    fn count(&mut self, code: usize) {
+        add(&mut self.images, 1);
+        let counted = match code {
+            0 => &mut self.sound,
+            4 => &mut self.outside,
+            5 => &mut self.malformed,
+            6 => &mut self.overlapping,
+            _ => &mut self.others,
+        };
+        add(counted, 1);
     }
-}
 
-// Notes what differs in an image, and prints it if it is the first that differs.
-pub(crate) fn differ<W: Write>(
-    out: &mut W,
-    book: &mut Book,
-    image: usize,
-    differs: usize,
-) -> io::Result<()> {
-    if differs == 0 {
-        return Ok(());
+    // Notes what a collection answered.
+    pub(crate) fn note(&mut self, answer: &Answer) {
+        self.count(answer.code);
+        add(&mut self.objects, answer.objects);
+        add(&mut self.live, answer.live);
+        add(&mut self.references, answer.references);
+        add(&mut self.peaks, answer.peak);
+        self.peak = self.peak.max(answer.peak);
     }
-    add(book, 11, 1);
-    if book[11] == 1 {
-        lines::numbers(out, &[image], b"image ")?;
-        lines::numbers(out, &[differs], b" differs in ")?;
-        lines::end(out)?;
+
+    // Notes what differs in an image, and prints it if it is the first that differs.
+    pub(crate) fn differ<W: Write>(
+        &mut self,
+        out: &mut W,
+        image: usize,
+        which: Difference,
+    ) -> io::Result<()> {
+        add(&mut self.differing, 1);
+        if self.differing == 1 {
+            lines::numbers(out, &[image], b"image ")?;
+            lines::numbers(out, &[which as usize], b" differs in ")?;
+            lines::end(out)?;
+        }
+        Ok(())
     }
-    Ok(())
+
+    // Prints " gave" and all numbers of the book.
+    pub(crate) fn print<W: Write>(&self, out: &mut W) -> io::Result<()> {
+        let numbers = [
+            self.images,
+            self.sound,
+            self.outside,
+            self.malformed,
+            self.overlapping,
+            self.others,
+            self.objects,
+            self.live,
+            self.references,
+            self.peaks,
+            self.peak,
+            self.differing,
+        ];
+        lines::gave(out, &numbers)
+    }
 }

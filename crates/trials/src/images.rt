@@ -1,33 +1,56 @@
-// The images. Places 1 and 2 of an image are words and keep length, 3 a count that a collection ignores, 4 junk, 5 to 7 what is needed
-// of map, stack and list, 8 how many roots there are, 9 to 13 what `heaps` is told, 14 how many words are overwritten, 15 a seed, 16 to
-// 18 say how many words more are lent of map, stack and list, and 19 what is changed before it is compared, or 0.
+// The images.
 ghost use Rattle.std.specs.Prelude.{◌≤◌};
 
-use crate::groups::Group;
+use crate::groups::{Group, Kind};
 use heaps::{below, cut, next};
+use layout::Rooms;
 
-// The numbers of an image.
-pub(crate) type Place = [usize; 48];
+// An image: its words and keep length, a count that a collection ignores, junk, how many words of map, stack and list are needed, and
+// how many are lent; how many roots there are; what `heaps` is told; how many words are overwritten, and a seed for that.
+#[derive(Clone, Copy)]
+pub(crate) struct Image {
+    kind: Kind,
+    pub(crate) words: usize,
+    pub(crate) keep: usize,
+    pub(crate) count: usize,
+    pub(crate) junk: u32,
+    pub(crate) needed: Rooms,
+    pub(crate) lent: Rooms,
+    pub(crate) roots: usize,
+    told: [usize; 5],
+    overwritten: usize,
+    seed: usize,
+}
+
+// The next number in a row of pseudo-random ones.
+fn draw(row: &mut usize) -> usize {
+    *row = next(*row);
+    *row
+}
+
+// Passes over so many numbers of the row.
+fn skip(row: &mut usize, n: usize) {
+    for _ in 0..n {
+        draw(row);
+    }
+}
 
 // A number from 1 to n, which is below 320, that goes by x.
 fn up_to(x: usize, n: usize) -> usize
     ensures { (1 ≤ result) × (result ≤ 320) }
 {
     if n % 320 == 0 {
-        return 1;
+        1
+    } else {
+        1 + below(x, n % 320)
     }
-    1 + below(x, n % 320)
 }
 
-// A random number for each place.
-fn draws(seed: usize) -> Place {
-    let mut place = [0; 48];
-    let mut x = seed;
-    for i in 0..48 {
-        x = next(x);
-        place[i] = x;
-    }
-    place
+// A number from 0 to n, which is below 16, that goes by x.
+fn at_most(x: usize, n: usize) -> usize
+    ensures { result ≤ 16 }
+{
+    below(x, n % 16 + 1)
 }
 
 // A seed at another point of the row than x, so that what is drawn from it is not drawn for an image too: x with its halves swapped.
@@ -35,62 +58,105 @@ fn apart(x: usize) -> usize {
     x % 32768 * 65536 + x / 32768
 }
 
-// An image of a group. `heaps` is told of a random heap how seldom there is damage of each kind; of any other the words of an object,
-// how far behind it the next one starts, one time in eight a word nearer, and the references of a fan. Place 47 is the next seed.
-pub(crate) fn image(kind: u8, group: Group, seed: usize) -> Place {
-    let mut place = draws(seed);
-    let words = up_to(place[1], group[0]);
-    let keep = up_to(place[2], group[1]);
+// How many words of map, stack and list a heap needs.
+fn needed(words: usize, keep: usize) -> Rooms
+    requires { (1 ≤ words) × (words ≤ 320) × (1 ≤ keep) }
+{
     let stack = heaps::part((words - 1) / keep);
-    place[1] = words;
-    place[2] = keep;
-    place[5] = (words + 31) / 32;
-    place[6] = stack;
-    place[7] = 2 * stack;
-    place[8] = below(place[8], group[2] % 16 + 1);
-    place[14] = below(place[14], group[3] % 16 + 1);
-    place[15] = apart(place[15]);
-    place[19] = 0;
-    if kind == b'r' {
-        place[9] = apart(place[9]);
-        place[10] = group[4];
-        place[11] = group[5];
-        place[12] = group[6];
-        place[13] = group[7];
-        return place;
+    Rooms {
+        map: (words + 31) / 32,
+        stack,
+        list: 2 * stack,
     }
-    let s = keep + below(place[9], 6);
-    place[9] = s;
-    place[10] = s + below(place[10], group[4] % 16 + 1) - below(place[12], 8) / 7;
-    place[11] = keep + below(place[11], 20);
-    place
 }
 
-// A chain of four objects of 4 words with 6 free words behind each: a sound image.
-pub(crate) fn chain() -> Place {
-    let mut place = [0; 48];
-    place[1] = 41;
-    place[2] = 3;
-    place[4] = 7;
-    place[5] = 2;
-    place[6] = 13;
-    place[7] = 26;
-    place[8] = 1;
-    place[9] = 4;
-    place[10] = 10;
-    place
+// What `heaps` is told: of a random heap a seed, and how seldom there is damage of each kind; of any other the words of an object, how
+// far behind it the next one starts, one time in eight a word nearer, and the references of a fan.
+fn told(row: &mut usize, group: &Group, keep: usize) -> [usize; 5]
+    requires { (1 ≤ keep) × (keep ≤ 320) }
+{
+    let [a, b, c, d, _] = [draw(row), draw(row), draw(row), draw(row), draw(row)];
+    if group.kind == Kind::Random {
+        let [inner, outside, damaged, overlaps] = group.seldom;
+        return [apart(a), inner, outside, damaged, overlaps];
+    }
+    let size = keep + below(a, 6);
+    let stride = size + at_most(b, group.between) - below(d, 8) / 7;
+    [size, stride, keep + below(c, 20), 0, 0]
+}
+
+impl Image {
+    // The next image of a group, for which 48 numbers of the row are drawn.
+    pub(crate) fn draw(row: &mut usize, group: &Group) -> Image {
+        skip(row, 1);
+        let words = up_to(draw(row), group.words);
+        let keep = up_to(draw(row), group.keep);
+        let count = draw(row);
+        let junk = cut(draw(row));
+        skip(row, 3);
+        let roots = at_most(draw(row), group.roots);
+        let told = told(row, group, keep);
+        let overwritten = at_most(draw(row), group.overwritten);
+        let seed = apart(draw(row));
+        let needed = needed(words, keep);
+        let lent = Rooms {
+            map: needed.map.wrapping_add(below(draw(row), 4)),
+            stack: needed.stack.wrapping_add(below(draw(row), 4)),
+            list: needed.list.wrapping_add(below(draw(row), 4)),
+        };
+        skip(row, 29);
+        Image {
+            kind: group.kind,
+            words,
+            keep,
+            count,
+            junk,
+            needed,
+            lent,
+            roots,
+            told,
+            overwritten,
+            seed,
+        }
+    }
+
+    // A chain of four objects of 4 words with 6 free words behind each: a sound image.
+    pub(crate) fn chain() -> Image {
+        Image {
+            kind: Kind::Onward,
+            words: 41,
+            keep: 3,
+            count: 0,
+            junk: 7,
+            needed: needed(41, 3),
+            lent: needed(41, 3),
+            roots: 1,
+            told: [4, 10, 0, 0, 0],
+            overwritten: 0,
+            seed: 0,
+        }
+    }
+
+    // Lays the heap and the root list, and overwrites words of the heap.
+    pub(crate) fn lay(&self, heap: &mut [u32], roots: &mut [u32]) {
+        let mut place = [0; 48];
+        place[1] = self.words;
+        place[2] = self.keep;
+        place[9..14].copy_from_slice(&self.told);
+        heaps::lay(u8::from(self.kind), place, heap, roots);
+        overwrite(heap, self.overwritten, self.seed);
+    }
 }
 
 // Overwrites n words of the heap, chosen at random, with an address or one just past the heap, or a header.
-pub(crate) fn overwrite(heap: &mut [u32], n: usize, seed: usize) {
-    let mut x = seed;
+fn overwrite(heap: &mut [u32], n: usize, seed: usize) {
+    if heap.is_empty() {
+        return;
+    }
+    let mut row = seed;
     for _ in 0..n {
-        if heap.len() == 0 {
-            return;
-        }
-        x = next(x);
-        let a = below(x, heap.len());
-        x = next(x);
+        let a = below(draw(&mut row), heap.len());
+        let x = draw(&mut row);
         heap[a] = cut(below(next(x), 3) * 65536 + below(x, heap.len() % 1024 + 3));
     }
 }

@@ -2,13 +2,14 @@
 #![tactic(auto)]
 
 mod book;
-mod changes;
 mod compare;
+mod difference;
 mod groups;
 mod images;
 mod marks;
 mod sweep;
 
+use groups::GROUPS;
 use std::io;
 
 // Where the random numbers begin.
@@ -16,12 +17,13 @@ const SEED: usize = 20260716;
 
 // Prints the seed, tries all groups, and shows that each comparison can fail.
 fn main(rt: HostRuntime) -> io::Result<()> {
+    let alloc = rt.alloc();
     let mut out = rt.stdout();
     lines::numbers(&mut out, &[SEED], b"seed ")?;
     lines::end(&mut out)?;
-    let mut x = SEED;
-    for g in 0..17 {
-        x = groups::run(&mut out, g, x)?;
+    let mut row = SEED;
+    for group in &GROUPS {
+        groups::run(&mut out, alloc, group, &mut row)?;
     }
-    changes::run(&mut out)
+    difference::show(&mut out, alloc)
 }

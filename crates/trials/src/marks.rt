@@ -1,180 +1,143 @@
 // The marking of the mark-sweep. Objects that are marked are put off, and their references met later, the last one's first.
-ghost use Rattle.std.specs.Prelude.{◌<◌, ◌≤◌, length};
-
 use crate::sweep;
-use std::num::wrapping_add_usize;
+use std::alloc::{AllocError, AllocFailed, Global};
 
-// A mark for each word of the heap.
-pub(crate) type Marks = [u8; 320];
-
-// The objects put off.
-type Later = [usize; 320];
-
-// What has come: the refusal's number or 0, and the reference met; how many references were met, the most intervals at once; and how
-// many objects are put off. The keep length goes with it.
-#[derive(Clone, Copy)]
-pub(crate) struct Marking {
-    keep: usize,
-    pub(crate) code: usize,
-    pub(crate) place: usize,
-    pub(crate) references: usize,
-    pub(crate) peak: usize,
-    pending: usize,
+// The mark of a word: no object's, where a marked object starts, or any other word of one.
+#[derive(Clone, Copy, PartialEq, Eq)]
+pub(crate) enum Mark {
+    Free,
+    Start,
+    Inner,
 }
 
-// Nothing found, or a refusal.
-fn nothing(keep: usize, code: usize, place: usize) -> Marking {
-    Marking {
-        keep,
-        code,
-        place,
-        references: 0,
-        peak: 0,
-        pending: 0,
+// Why marking ends before all is marked: the reference met names no word, an object that is not well-formed, or one that overlaps
+// another; or there is no memory.
+#[derive(Drop)]
+pub(crate) enum Fault {
+    Outside(usize),
+    Malformed(usize),
+    Overlapping(usize),
+    NoMemory(AllocError),
+}
+
+// No memory for the marks.
+impl From<AllocError> for Fault {
+    fn from(e: AllocError) -> Fault {
+        Fault::NoMemory(e)
     }
+}
+
+// No memory for an object put off.
+impl<T: Drop> From<AllocFailed<T>> for Fault {
+    fn from(e: AllocFailed<T>) -> Fault {
+        Fault::NoMemory(AllocError::from(e))
+    }
+}
+
+// What has come: a mark for each word of the heap, the objects put off, how many references were met, and the most intervals at once.
+#[derive(Drop)]
+pub(crate) struct Marking<'a> {
+    heap: &'a [u32],
+    pub(crate) keep: usize,
+    pub(crate) marks: Vec<Mark>,
+    later: Vec<usize>,
+    pub(crate) references: usize,
+    pub(crate) peak: usize,
 }
 
 // A word as a number.
-fn number(word: u32) -> usize {
-    word as usize
+fn number(word: &u32) -> usize {
+    *word as usize
 }
 
-// The same with the peak raised to the intervals that there are now.
-fn peaked(found: Marking, marks: &Marks, words: usize) -> Marking
-    requires { words ≤ 320 }
-{
-    let mut list = [0; 640];
-    let mut now = found;
-    let n = sweep::free(marks, words, now.keep, &mut list);
-    if now.peak < n {
-        now.peak = n;
-    }
-    now
-}
-
-// Where the object at w ends, or 0 if its header is not well-formed.
-fn end(heap: &[u32], keep: usize, w: usize) -> usize
-    requires { (w < length heap.now) × (length heap.now ≤ 320) }
-    ensures { result ≤ length heap.now }
-{
-    let size = number(heap[w]) % 65536;
-    let refs = number(heap[w]) / 65536;
-    if (size < keep) | (size <= refs) {
-        return 0;
-    }
-    if heap.len() < w + size {
-        return 0;
-    }
-    w + size
-}
-
-// Whether no word from a up to `end` has a mark.
-fn is_clear(marks: &Marks, a: usize, end: usize) -> bool
-    requires { end ≤ 320 }
-{
-    for i in a..end {
-        if marks[i] != 0 {
-            return false;
+impl<'a> Marking<'a> {
+    // Marks all that is reached from the roots, from one before the next, up to a fault.
+    pub(crate) fn of(
+        alloc: Global,
+        heap: &'a [u32],
+        keep: usize,
+        roots: &[u32],
+    ) -> Result<Marking<'a>, Fault> {
+        let marks = vec![in alloc; Mark::Free; heap.len()]?;
+        let mut marking = Marking {
+            heap,
+            keep,
+            peak: sweep::intervals(&marks, keep),
+            marks,
+            later: Vec::new(alloc),
+            references: 0,
+        };
+        for root in roots {
+            marking.meet(number(root))?;
+            marking.meet_later()?;
         }
+        Ok(marking)
     }
-    true
-}
 
-// Marks the words from a up to `end`.
-fn mark(marks: &mut Marks, a: usize, end: usize)
-    requires { end ≤ 320 }
-{
-    for i in a..end {
-        marks[i] = 1;
+    // Where the object at w ends, if its header is well-formed.
+    fn end(&self, w: usize) -> Option<usize> {
+        let header = number(self.heap.get(w)?);
+        let size = header % 65536;
+        let refs = header / 65536;
+        let end = w.checked_add(size)?;
+        let is_formed = self.keep <= size && refs < size && end <= self.heap.len();
+        is_formed.then_some(end)
     }
-}
 
-// Meets the reference w.
-fn meet(heap: &[u32], marks: &mut Marks, later: &mut Later, found: Marking, w: usize) -> Marking
-    requires { length heap.now ≤ 320 }
-{
-    let keep = found.keep;
-    let n = found.pending;
-    let mut now = found;
-    now.references = wrapping_add_usize(now.references, 1);
-    if w == 0 {
-        return now;
+    // Marks the words of the object at w.
+    fn mark(&mut self, w: usize) -> Result<(), Fault> {
+        let end = self.end(w).ok_or(Fault::Malformed(w))?;
+        let Some(object) = self.marks.as_mut_slice().get_mut(w..end) else {
+            return Err(Fault::Malformed(w));
+        };
+        if object.iter().any(|mark| *mark != Mark::Free) {
+            return Err(Fault::Overlapping(w));
+        }
+        object.fill(Mark::Inner);
+        if let Some(start) = object.first_mut() {
+            *start = Mark::Start;
+        }
+        Ok(())
     }
-    if heap.len() <= w {
-        return nothing(keep, 4, w);
-    }
-    if marks[w] == 2 {
-        return now;
-    }
-    let end = end(heap, keep, w);
-    if end == 0 {
-        return nothing(keep, 5, w);
-    }
-    if !is_clear(marks, w, end) {
-        return nothing(keep, 6, w);
-    }
-    mark(marks, w, end);
-    marks[w] = 2;
-    if n < 320 {
-        later[n] = w;
-        now.pending = n + 1;
-    }
-    peaked(now, marks, heap.len())
-}
 
-// Meets the references of the object at a, up to a refusal.
-fn meet_all(heap: &[u32], marks: &mut Marks, later: &mut Later, found: Marking, a: usize) -> Marking
-    requires { length heap.now ≤ 320 }
-{
-    let mut now = found;
-    if heap.len() <= a {
-        return now;
-    }
-    for i in 0..number(heap[a]) / 65536 {
-        let at = a + 1 + i;
-        if heap.len() <= at {
-            return now;
+    // Meets the reference w.
+    fn meet(&mut self, w: usize) -> Result<(), Fault> {
+        self.references = self.references.wrapping_add(1);
+        if w == 0 {
+            return Ok(());
         }
-        if now.code != 0 {
-            return now;
+        match self.marks.get(w) {
+            None => return Err(Fault::Outside(w)),
+            Some(Mark::Start) => return Ok(()),
+            Some(_) => {}
         }
-        now = meet(heap, marks, later, now, number(heap[at]));
+        self.mark(w)?;
+        self.later.push(w)?;
+        self.peak = self.peak.max(sweep::intervals(&self.marks, self.keep));
+        Ok(())
     }
-    now
-}
 
-// Meets the references of objects put off until there are none. No more objects are put off than there are words.
-fn meet_later(heap: &[u32], marks: &mut Marks, later: &mut Later, found: Marking) -> Marking
-    requires { length heap.now ≤ 320 }
-{
-    let mut now = found;
-    for _ in 0..heap.len() {
-        let n = now.pending;
-        if n == 0 {
-            return now;
+    // Meets the references of the object at a.
+    fn meet_all(&mut self, a: usize) -> Result<(), Fault> {
+        let heap = self.heap;
+        let Some((header, fields)) = heap.get(a..).and_then(|object| object.split_first()) else {
+            return Ok(());
+        };
+        for field in fields.iter().take(number(header) / 65536) {
+            self.meet(number(field))?;
         }
-        if 320 < n {
-            return now;
-        }
-        let a = later[n - 1];
-        now.pending = n - 1;
-        now = meet_all(heap, marks, later, now, a);
+        Ok(())
     }
-    now
-}
 
-// Meets the roots, and all that is reached from one before the next, up to a refusal.
-pub(crate) fn meet_roots(heap: &[u32], keep: usize, roots: &[u32], marks: &mut Marks) -> Marking
-    requires { length heap.now ≤ 320 }
-{
-    let mut later = [0; 320];
-    let mut now = peaked(nothing(keep, 0, 0), marks, heap.len());
-    for i in 0..roots.len() {
-        now = meet(heap, marks, &mut later, now, number(roots[i]));
-        now = meet_later(heap, marks, &mut later, now);
-        if now.code != 0 {
-            return now;
+    // Meets the references of objects put off until there are none: no more are put off than there are words, so as many turns are
+    // enough.
+    fn meet_later(&mut self) -> Result<(), Fault> {
+        for _ in 0..self.heap.len() {
+            let Some(a) = self.later.pop() else {
+                return Ok(());
+            };
+            self.meet_all(a)?;
         }
+        Ok(())
     }
-    now
 }
