@@ -7,7 +7,7 @@ ghost use Rattle.freelist.specs.Figures.{fragment_of, figures_of};
 use crate::records;
 
 // Listed words, the words of the largest interval, and how far the list is fragmented, in thousandths.
-#[derive(Clone, Copy)]
+#[derive(Clone, Copy, Default)]
 pub struct Figures {
     pub listed: usize,
     pub largest: usize,

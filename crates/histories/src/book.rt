@@ -1,4 +1,6 @@
 // The book of a history: how often each call gave each number, sums over all collections, and a digest of every answer.
+use collector::Collection;
+use layout::Refusal;
 use std::io;
 use std::io::Write;
 
@@ -20,6 +22,17 @@ pub(crate) struct Finds {
     pub(crate) live: usize,
     pub(crate) references: usize,
     pub(crate) peak: usize,
+}
+
+impl From<Collection> for Finds {
+    fn from(found: Collection) -> Finds {
+        Finds {
+            objects: found.objects,
+            live: found.live,
+            references: found.references,
+            peak: found.peak,
+        }
+    }
 }
 
 // The numbers of the book, in the order in which they are printed: calls counted by what they gave, other calls, the finds of all
@@ -50,22 +63,22 @@ fn add(to: &mut usize, n: usize) {
 }
 
 impl Book {
-    // Counts a call by the number that it gave.
-    fn count(&mut self, call: Call, code: u32) {
-        let counted = match (call, code) {
-            (Call::Allot, 0) => &mut self.allots,
-            (Call::Allot, 7) => &mut self.allots_misshapen,
-            (Call::Allot, 8) => &mut self.allots_without_room,
-            (Call::Read, 0) => &mut self.reads,
-            (Call::Read, 9) => &mut self.reads_of_no_object,
-            (Call::Read, 10) => &mut self.reads_of_no_field,
-            (Call::Write, 0) => &mut self.writes,
-            (Call::Write, 9) => &mut self.writes_to_no_object,
-            (Call::Write, 10) => &mut self.writes_to_no_field,
-            (Call::Write, 11) => &mut self.writes_of_no_object,
-            (Call::Collect, 0) => &mut self.collections,
-            (Call::Survey, 0) => &mut self.surveys,
-            (Call::SetUp, 0) => &mut self.set_ups,
+    // Counts a call by its refusal, if there was one.
+    fn count(&mut self, call: Call, refusal: Option<Refusal>) {
+        let counted = match (call, refusal) {
+            (Call::Allot, None) => &mut self.allots,
+            (Call::Allot, Some(Refusal::Size)) => &mut self.allots_misshapen,
+            (Call::Allot, Some(Refusal::Full)) => &mut self.allots_without_room,
+            (Call::Read, None) => &mut self.reads,
+            (Call::Read, Some(Refusal::Object)) => &mut self.reads_of_no_object,
+            (Call::Read, Some(Refusal::Field)) => &mut self.reads_of_no_field,
+            (Call::Write, None) => &mut self.writes,
+            (Call::Write, Some(Refusal::Object)) => &mut self.writes_to_no_object,
+            (Call::Write, Some(Refusal::Field)) => &mut self.writes_to_no_field,
+            (Call::Write, Some(Refusal::Target)) => &mut self.writes_of_no_object,
+            (Call::Collect, None) => &mut self.collections,
+            (Call::Survey, None) => &mut self.surveys,
+            (Call::SetUp, None) => &mut self.set_ups,
             _ => &mut self.others,
         };
         add(counted, 1);
@@ -76,10 +89,10 @@ impl Book {
         self.digest = lines::sum_on(self.digest, came);
     }
 
-    // Notes a call: the number that it gave, and the rest of its answer.
-    pub(crate) fn note(&mut self, call: Call, code: u32, came: &[usize]) {
-        self.count(call, code);
-        self.digest(&[code as usize]);
+    // Notes a call: its refusal, if there was one, and the rest of its answer.
+    pub(crate) fn note(&mut self, call: Call, refusal: Option<Refusal>, came: &[usize]) {
+        self.count(call, refusal);
+        self.digest(&[refusal.map_or(0, Refusal::number) as usize]);
         self.digest(came);
     }
 

@@ -8,20 +8,23 @@ impl Player<'_> {
     pub(crate) fn set_up(&mut self, keep: usize) {
         let heap = &mut *self.heap;
         let got = State::set_up(heap, keep, self.map, self.list);
-        let state = got.state;
+        let state = got.unwrap_or_default();
         let came = [state.words, state.keep, state.count];
         self.state = state;
-        self.book.note(Call::SetUp, got.code, &came);
+        self.book.note(Call::SetUp, got.err(), &came);
     }
 
     // Allots s words, the first p fields references. The new object's address, if it is not refused.
     pub(crate) fn allot(&mut self, s: usize, p: usize) -> Option<usize> {
         let got = store::allot(self.state, self.heap, self.map, self.list, s, p);
-        let state = got.state;
-        let came = [got.address, state.words, state.keep, state.count];
+        let (refusal, address, state) = match got {
+            Ok(made) => (None, made.address, made.state),
+            Err(refused) => (Some(refused.refusal), 0, refused.state),
+        };
+        let came = [address, state.words, state.keep, state.count];
         self.state = state;
-        self.book.note(Call::Allot, got.code, &came);
-        (got.code == 0).then_some(got.address)
+        self.book.note(Call::Allot, refusal, &came);
+        got.ok().map(|made| made.address)
     }
 
     // Reads field k of the object at a. Its word, if it is not refused.
@@ -29,38 +32,39 @@ impl Player<'_> {
         let heap = &mut *self.heap;
         let map = &mut *self.map;
         let got = store::read(self.state, heap, map, a, k);
-        self.book.note(Call::Read, got.code, &[got.value as usize]);
-        (got.code == 0).then_some(got.value)
+        let value = got.unwrap_or_default();
+        self.book.note(Call::Read, got.err(), &[value as usize]);
+        got.ok()
     }
 
     // Stores v in field k of the object at a.
     pub(crate) fn write(&mut self, a: usize, k: usize, v: u32) {
         let map = &mut *self.map;
-        let code = store::write(self.state, self.heap, map, a, k, v);
-        self.book.note(Call::Write, code, &[]);
+        let got = store::write(self.state, self.heap, map, a, k, v);
+        self.book.note(Call::Write, got.err(), &[]);
     }
 
     // Surveys.
     pub(crate) fn survey(&mut self) {
         let got = store::survey(self.state, self.list);
-        let figures = got.figures;
+        let figures = got.unwrap_or_default();
         let came = [figures.listed, figures.largest, figures.fragment];
-        self.book.note(Call::Survey, got.code, &came);
+        self.book.note(Call::Survey, got.err(), &came);
     }
 
     // Collects from roots.
     pub(crate) fn collect(&mut self, roots: &[u32]) {
         let heap = &mut *self.heap;
         let got = collector::collect(self.state, heap, roots, self.map, self.stack, self.list);
-        let finds = Finds {
-            objects: got.objects,
-            live: got.live,
-            references: got.references,
-            peak: got.peak,
+        let (refusal, place, finds, state) = match got {
+            Ok(found) => (None, 0, Finds::from(found), found.state),
+            Err(refused) => {
+                let fault = refused.fault;
+                (Some(fault.refusal), fault.place, Finds::default(), refused.state)
+            }
         };
-        let state = got.state;
         let came = [
-            got.place,
+            place,
             finds.objects,
             finds.live,
             finds.references,
@@ -70,7 +74,7 @@ impl Player<'_> {
             state.count,
         ];
         self.state = state;
-        self.book.note(Call::Collect, got.code, &came);
+        self.book.note(Call::Collect, refusal, &came);
         self.book.found(finds);
     }
 }

@@ -39,11 +39,7 @@ impl<'a> Player<'a> {
             map,
             stack,
             list,
-            state: State {
-                words: 0,
-                keep: 0,
-                count: 0,
-            },
+            state: State::default(),
             slots: [0; 24],
             book: Book::default(),
         }

@@ -2,7 +2,7 @@
 use crate::difference::Difference;
 use crate::images::Image;
 use crate::sweep;
-use collector::Collected;
+use collector::{Collection, Refused};
 use layout::State;
 use std::alloc::{AllocError, Global};
 
@@ -36,20 +36,34 @@ pub(crate) struct Trial {
     pub(crate) differs: Option<Difference>,
 }
 
-// The numbers that a collection answered.
-impl From<Collected> for Answer {
-    fn from(got: Collected) -> Answer {
-        let state = got.state;
+impl Answer {
+    // The numbers of a state, and no others.
+    fn of(state: State) -> Answer {
         Answer {
-            code: got.code as usize,
-            place: got.place,
-            objects: got.objects,
-            live: got.live,
-            references: got.references,
-            peak: got.peak,
             words: state.words,
             keep: state.keep,
             count: state.count,
+            ..Answer::default()
+        }
+    }
+}
+
+// The numbers that a collection answered.
+impl From<Result<Collection, Refused>> for Answer {
+    fn from(got: Result<Collection, Refused>) -> Answer {
+        match got {
+            Ok(found) => Answer {
+                objects: found.objects,
+                live: found.live,
+                references: found.references,
+                peak: found.peak,
+                ..Answer::of(found.state)
+            },
+            Err(refused) => Answer {
+                code: refused.fault.refusal.number() as usize,
+                place: refused.fault.place,
+                ..Answer::of(refused.state)
+            },
         }
     }
 }
