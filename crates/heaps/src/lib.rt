@@ -49,12 +49,10 @@ fn write_words(from: &[usize], heap: &mut [u32]) {
 
 // The words that a line gives: the roots, then addresses and values of words.
 fn given(from: &[usize], heap: &mut [u32], roots: &mut [u32]) {
-    let r = roots.len();
-    if from.len() < r {
-        return;
+    if let Some((first, behind)) = from.split_at_checked(roots.len()) {
+        write(first, roots);
+        write_words(behind, heap);
     }
-    write(&from[..r], roots);
-    write_words(&from[r..], heap);
 }
 
 // How a heap is laid.

@@ -29,7 +29,7 @@ fn places(line: &[u8]) -> [usize; 48] {
     let mut place = [0; 48];
     for (k, part) in line.split(|byte| *byte == b' ').enumerate() {
         let k = k.min(47);
-        place[k] = part.iter().fold(place[k], |n, byte| more(n, *byte));
+        place[k] = part.iter().copied().fold(place[k], more);
     }
     place
 }
@@ -40,10 +40,10 @@ pub fn line_at(text: &[u8], at: usize) -> Line
     ensures { (at ≤ result.end) × (result.end ≤ length text.now) }
 {
     let rest = &text[at..];
-    let size = match rest.iter().position(|byte| *byte == b'\n') {
-        Some(n) => n,
-        None => rest.len(),
-    };
+    let size = rest
+        .iter()
+        .position(|byte| *byte == b'\n')
+        .unwrap_or(rest.len());
     Line {
         kind: text[at],
         place: places(&rest[..size]),
@@ -135,12 +135,12 @@ fn one_more(sum: usize, n: usize) -> usize {
 
 // A sum with more numbers.
 pub fn sum_on(sum: usize, came: &[usize]) -> usize {
-    came.iter().fold(sum, |sum, n| one_more(sum, *n))
+    came.iter().copied().fold(sum, one_more)
 }
 
 // A sum over the words of a list.
 pub fn sum(list: &[u32]) -> usize {
-    list.iter().fold(0, |sum, word| one_more(sum, wide(*word)))
+    list.iter().copied().map(wide).fold(0, one_more)
 }
 
 // Prints a sum over the words of a list and, of a short list, all of them.
