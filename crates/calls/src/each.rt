@@ -15,6 +15,7 @@ pub(crate) enum Call {
     Survey,
 }
 
+// What a letter says.
 impl From<u8> for Call {
     fn from(letter: u8) -> Call {
         match letter {

@@ -1,6 +1,6 @@
 // Histories of calls. A line lends where its letter is b, and where it is the first: as many words of heap, map, stack and list as
-// it says, all junk. The lines behind it are run on these and on one state: h, m and l write words of heap, map and list, g gives the
-// state, any other letter is a call.
+// it says, all junk. The lines behind it are run on these and on one state: h, m and l write words of heap, map and list, g gives
+// the state, any other letter is a call.
 use crate::each::Call;
 use layout::State;
 use lines::Line;
@@ -28,6 +28,7 @@ enum Turn {
     Call(Call),
 }
 
+// What a letter says.
 impl From<u8> for Turn {
     fn from(letter: u8) -> Turn {
         match letter {

@@ -17,6 +17,7 @@ pub(crate) enum Ask {
     Comb,
 }
 
+// What a letter says.
 impl From<u8> for Ask {
     fn from(letter: u8) -> Ask {
         match letter {
@@ -94,8 +95,8 @@ impl Trial {
         self.in_part(out, count, list)
     }
 
-    // The trial in the needed part of the list. Came: 0 where refusal 3 is given. Else 1, and of figures listed, largest, fragment; of words
-    // that are taken the count where no record has them, or the report.
+    // The trial in the needed part of the list. Came: 0 where refusal 3 is given. Else 1, and then of figures listed, largest,
+    // fragment; of words that are taken the count where no record has them, or the report.
     fn in_part<W: Write>(self, out: &mut W, count: usize, list: &mut [u32]) -> io::Result<()>
         requires { (within self.words self.keep ≡ true) × (length list.old ≡ list_words self.words self.keep) }
     {

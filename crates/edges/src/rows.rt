@@ -14,6 +14,7 @@ enum Kind {
     List(Ask),
 }
 
+// What a letter says.
 impl From<u8> for Kind {
     fn from(letter: u8) -> Kind {
         match letter {
@@ -45,8 +46,8 @@ fn over(words: &[u32], laid: [u32; 2]) -> usize {
     buffer::written_over(words, laid).unwrap_or(999999)
 }
 
-// Set-up in buffers full of junk. Given: the words of the heap, keep, the words of map and list. Came: the answer; how many words of
-// map and of list were written over. A line that asks for longer buffers than there are gives nothing.
+// Set-up in buffers full of junk. Given: the words of the heap, keep, the words of map and list. Came: the answer; how many words
+// of map and of list were written over. A line that asks for longer buffers than there are gives nothing.
 fn set_up<W: Write>(out: &mut W, place: &[usize; 48]) -> io::Result<()> {
     let [_, h, keep, m, n, ..] = *place;
     let heap = heaps::junk();

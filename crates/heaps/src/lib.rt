@@ -64,6 +64,7 @@ enum Kind {
     Fan,
 }
 
+// What a letter says.
 impl From<u8> for Kind {
     fn from(letter: u8) -> Kind {
         match letter {

@@ -62,38 +62,27 @@ pub fn printed<W: Write>(out: &mut W, text: &[u8], at: usize) -> io::Result<Line
     Ok(line)
 }
 
-// Goes over the lines of a text: prints each, lets `trial` print what came behind it, and ends it.
-fn each<W: Write, F: FnMut(&mut W, &Line) -> io::Result<()>>(
-    out: &mut W,
-    text: &[u8],
-    mut trial: F,
-) -> io::Result<()>
-    requires { F.IsAlwaysCallable trial }
-{
-    let mut at = 0;
-    while at < text.len() {
-        let line = printed(out, text, at)?;
-        trial(out, &line)?;
-        end(out)?;
-        at = line.end + 1;
-    }
-    Ok(())
-}
-
-// Does the same with all that is read, up to 65,536 bytes: what most of the test programs are.
+// Reads up to 65,536 bytes, prints each line of them, and lets `trial` print what came behind it: what most of the test programs
+// are.
 pub fn run<R: Read, W: Write, F: FnMut(&mut W, &Line) -> io::Result<()>>(
     from: &mut R,
     out: &mut W,
-    trial: F,
+    mut trial: F,
 ) -> io::Result<()>
     requires { F.IsAlwaysCallable trial }
 {
     let mut text = [0u8; 65536];
     let n = read_full(from, &mut text)?;
-    each(out, &text[..n], trial)
+    for part in text[..n].split_inclusive(|byte| *byte == b'\n') {
+        let line = printed(out, part, 0)?;
+        trial(out, &line)?;
+        end(out)?;
+    }
+    Ok(())
 }
 
-// Reads until the buffer is full or the input ends, and answers how many bytes came.
+// Reads until the buffer is full or the input ends, and answers how many bytes came. A loop by hand: the library's methods read the
+// whole of either, or fail.
 pub fn read_full<R: Read>(from: &mut R, text: &mut [u8]) -> io::Result<usize>
     ensures { IfOk result (λ n. n ≤ length text.new) }
 {

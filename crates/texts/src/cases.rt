@@ -21,7 +21,8 @@ fn trial<W: Write>(out: &mut W, text: &[u8]) -> io::Result<()> {
     say_kept(out, behind)
 }
 
-// All texts: prints the line before each, and then its answer.
+// All texts: prints the line before each, and then its answer. A loop by hand: a text may have line feeds in it, so only its length
+// says where the next line begins.
 pub(crate) fn all<W: Write>(out: &mut W, input: &[u8]) -> io::Result<()> {
     let mut at = 0;
     while at < input.len() {

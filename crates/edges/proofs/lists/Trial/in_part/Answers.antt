@@ -1,4 +1,5 @@
--- `lists::Trial::in_part` is safe: a list that passed is ordered within the heap, what is found is contained, and the list stays in its part.
+-- `lists::Trial::in_part` is safe: a list that passed is ordered within the heap, what is found is contained, and the list stays in
+-- its part.
 use Rattle.std.proofs.Common.{sym, ◌∙◌, arith}
 use Rattle.freelist.specs.Records.{records}
 use Rattle.freelist.specs.RecordsLaws.{valid_ordered}
