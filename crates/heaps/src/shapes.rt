@@ -86,6 +86,7 @@ impl Shape {
     }
 
     // Lays the objects behind the references of a fan, and refers to them from word 2 on.
+    // The addresses go on by hand: over a `zip` of both rows the proof that its words lie in the heap did not close.
     fn spread(self, heap: &mut [u32]) {
         let mut a = self.refs + 2;
         for i in 0..self.refs {
