@@ -81,8 +81,8 @@ pub fn run<R: Read, W: Write, F: FnMut(&mut W, &Line) -> io::Result<()>>(
     Ok(())
 }
 
-// Reads until the buffer is full or the input ends, and answers how many bytes came. A loop by hand: the library's methods read the
-// whole of either, or fail.
+// Reads until the buffer is full or the input ends, and answers how many bytes came. A loop by hand: no method of the library stops
+// at the first of both.
 pub fn read_full<R: Read>(from: &mut R, text: &mut [u8]) -> io::Result<usize>
     ensures { IfOk result (λ n. n ≤ length text.new) }
 {
