@@ -7,7 +7,9 @@ mod rows;
 use std::io;
 
 fn main(rt: HostRuntime) -> io::Result<()> {
-    let mut text = [0u8; 65536];
-    let n = lines::read_full(&mut rt.stdin(), &mut text)?;
-    rows::all(&mut rt.stdout(), &text[..n])
+    let alloc = rt.alloc();
+    let mut lent = None;
+    lines::run(&mut rt.stdin(), &mut rt.stdout(), |out, line| {
+        rows::run(alloc, out, &mut lent, line)
+    })
 }

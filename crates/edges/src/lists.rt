@@ -1,7 +1,6 @@
 // Lines about the free list. A line gives words, keep, a, s, the count, and the records; what it does not give is 9.
 ghost use Rattle.std.specs.Prelude.{◌≡◌, true, length};
 ghost use Rattle.layout.specs.Limits.{within, list_words};
-ghost use Rattle.freelist.specs.Records.{valid_list};
 
 use freelist::search::Found;
 use freelist::{Figures, records, search};
@@ -9,40 +8,45 @@ use layout::Rooms;
 use std::io;
 use std::io::Write;
 
-// Word i of the list that a line gives.
-fn given(place: [usize; 48], i: usize) -> u32 {
-    if place[5] <= i / 2 {
-        return 9;
-    }
-    if 42 <= i {
-        return 9;
-    }
-    (place[6 + i] % 4294967296) as u32
+// What is asked of the list: figures, the first words of a record, words taken off, or the same of a comb.
+#[derive(Clone, Copy, Debug, PartialEq, Eq)]
+pub(crate) enum Ask {
+    Figures,
+    Front,
+    Off,
+    Comb,
 }
 
-// Writes the list that a line gives.
-fn write(place: [usize; 48], list: &mut [u32]) {
-    for i in 0..list.len() {
-        list[i] = given(place, i);
+// What a letter says.
+impl From<u8> for Ask {
+    fn from(letter: u8) -> Ask {
+        match letter {
+            b'l' => Ask::Figures,
+            b'f' => Ask::Front,
+            b'c' => Ask::Comb,
+            _ => Ask::Off,
+        }
     }
+}
+
+// Writes the list that a line gives, and answers its count.
+fn write(place: &[usize; 48], list: &mut [u32]) -> usize {
+    let count = place[5];
+    list.fill(9);
+    heaps::write(&place[6..6 + 2 * count.min(21)], list);
+    count
 }
 
 // Writes intervals of three words, one word apart, as far as the heap goes, and answers how many.
 fn comb(words: usize, list: &mut [u32]) -> usize {
-    let mut i = 0;
-    while i < list.len() / 2 {
-        let start = 1 + 4 * i;
-        if 65536 < words {
+    for (i, record) in list.chunks_exact_mut(2).enumerate() {
+        if words / 4 <= i {
             return i;
         }
-        if words < start + 3 {
-            return i;
-        }
-        list[2 * i] = start as u32;
-        list[2 * i + 1] = 3;
-        i += 1;
+        record[0] = heaps::cut(4 * i + 1);
+        record[1] = 3;
     }
-    i
+    list.len() / 2
 }
 
 // Prints the record's place, the new count, a sum over the words of the list and, of a short list, all of them.
@@ -51,131 +55,81 @@ fn report<W: Write>(out: &mut W, j: usize, count: usize, list: &[u32]) -> io::Re
     lines::buffer(out, list)
 }
 
-// The survey's figures. Came: 1 and listed, largest, fragment.
-fn figures<W: Write>(
-    out: &mut W,
-    list: &[u32],
-    count: usize,
-    words: usize,
-    keep: usize,
-) -> io::Result<()>
-    requires { (within words keep ≡ true) × (length list.now ≡ list_words words keep) × (valid_list words keep count list.now ≡ true) }
-{
-    let figures = Figures::of(list, count);
-    lines::gave(out, &[1, figures.listed, figures.largest, figures.fragment])
-}
-
-// The s words from a on are taken off. Came: 1 and the count where no record holds them, or the report.
-fn off<W: Write>(
-    out: &mut W,
-    list: &mut [u32],
-    count: usize,
+// A trial: what is asked, the words and the keep length of the heap, and where and how many words are taken off.
+#[derive(Clone, Copy)]
+pub(crate) struct Trial {
+    ask: Ask,
     words: usize,
     keep: usize,
     a: usize,
     s: usize,
-) -> io::Result<()>
-    requires { (within words keep ≡ true) × (length list.old ≡ list_words words keep) × (valid_list words keep count list.old ≡ true) }
-{
-    if s == 0 {
-        return Ok(());
-    }
-    if words < s {
-        return Ok(());
-    }
-    if words < a {
-        return Ok(());
-    }
-    let Found::At(j) = search::holding(list, count, a, s) else {
-        return lines::gave(out, &[1, count]);
-    };
-    let left = split::take_off(list, count, keep, a, s, j);
-    report(out, j, left, list)
 }
 
-// The first s words of the first record that has them are taken. Came: as above.
-fn front<W: Write>(
-    out: &mut W,
-    list: &mut [u32],
-    count: usize,
-    words: usize,
-    keep: usize,
-    s: usize,
-) -> io::Result<()>
-    requires { (within words keep ≡ true) × (length list.old ≡ list_words words keep) × (valid_list words keep count list.old ≡ true) }
-{
-    let Found::At(j) = search::fitting(list, count, s) else {
-        return lines::gave(out, &[1, count]);
-    };
-    let left = split::take_front(list, count, keep, s, j);
-    report(out, j, left, list)
-}
+impl Trial {
+    // What a line asks.
+    pub(crate) fn of(ask: Ask, place: &[usize; 48]) -> Trial {
+        let [_, words, keep, a, s, ..] = *place;
+        Trial {
+            ask,
+            words,
+            keep,
+            a,
+            s,
+        }
+    }
 
-// The list of a trial: a comb for c, else the one that the line gives. The count.
-fn laid(kind: u8, place: [usize; 48], list: &mut [u32]) -> usize {
-    if kind == b'c' {
-        return comb(place[1], list);
+    // The trial of a comb or of the list that a line gives, if words and keep length are within the limits.
+    pub(crate) fn run<W: Write>(self, out: &mut W, place: &[usize; 48]) -> io::Result<()> {
+        let rooms = Rooms::of(self.words, self.keep);
+        if rooms.map == 0 {
+            return Ok(());
+        }
+        let mut list = heaps::junk();
+        let Some(list) = list.get_mut(..rooms.list) else {
+            return Ok(());
+        };
+        let count = match self.ask {
+            Ask::Comb => comb(self.words, list),
+            _ => write(place, list),
+        };
+        self.in_part(out, count, list)
     }
-    write(place, list);
-    place[5]
-}
 
-// A trial of a list that passed: l asks for figures, f takes a front, any other takes words off.
-fn passed<W: Write>(
-    out: &mut W,
-    kind: u8,
-    list: &mut [u32],
-    count: usize,
-    words: usize,
-    keep: usize,
-    a: usize,
-    s: usize,
-) -> io::Result<()>
-    requires { (within words keep ≡ true) × (length list.old ≡ list_words words keep) × (valid_list words keep count list.old ≡ true) }
-{
-    if kind == b'l' {
-        return figures(out, list, count, words, keep);
+    // The trial in the needed part of the list. Came: 0 where refusal 3 is given. Else 1, and then of figures listed, largest,
+    // fragment; of words that are taken the count where no record has them, or the report.
+    fn in_part<W: Write>(self, out: &mut W, count: usize, list: &mut [u32]) -> io::Result<()>
+        requires { (within self.words self.keep ≡ true) × (length list.old ≡ list_words self.words self.keep) }
+    {
+        let Trial {
+            ask,
+            words,
+            keep,
+            a,
+            s,
+        } = self;
+        if !records::are_valid(list, count, words, keep) {
+            return lines::gave(out, &[0]);
+        }
+        match ask {
+            Ask::Figures => {
+                let figures = Figures::of(list, count);
+                lines::gave(out, &[1, figures.listed, figures.largest, figures.fragment])
+            }
+            Ask::Front => {
+                let Found::At(j) = search::fitting(list, count, s) else {
+                    return lines::gave(out, &[1, count]);
+                };
+                let left = split::take_front(list, count, keep, s, j);
+                report(out, j, left, list)
+            }
+            Ask::Off | Ask::Comb if s == 0 || words < s || words < a => Ok(()),
+            Ask::Off | Ask::Comb => {
+                let Found::At(j) = search::holding(list, count, a, s) else {
+                    return lines::gave(out, &[1, count]);
+                };
+                let left = split::take_off(list, count, keep, a, s, j);
+                report(out, j, left, list)
+            }
+        }
     }
-    if kind == b'f' {
-        return front(out, list, count, words, keep, s);
-    }
-    off(out, list, count, words, keep, a, s)
-}
-
-// A trial in the needed part of the list. Came: 0 where refusal 3 is given.
-fn in_part<W: Write>(
-    out: &mut W,
-    kind: u8,
-    place: [usize; 48],
-    list: &mut [u32],
-    words: usize,
-    keep: usize,
-) -> io::Result<()>
-    requires { (within words keep ≡ true) × (length list.old ≡ list_words words keep) }
-{
-    let count = laid(kind, place, list);
-    if !records::are_valid(list, count, words, keep) {
-        return lines::gave(out, &[0]);
-    }
-    passed(out, kind, list, count, words, keep, place[3], place[4])
-}
-
-// A trial of the list.
-pub(crate) fn trial<W: Write>(
-    out: &mut W,
-    kind: u8,
-    place: [usize; 48],
-    list: &mut [u32],
-) -> io::Result<()> {
-    let words = place[1];
-    let keep = place[2];
-    let rooms = Rooms::of(words, keep);
-    let n = rooms.list;
-    if rooms.map == 0 {
-        return Ok(());
-    }
-    if list.len() < n {
-        return Ok(());
-    }
-    in_part(out, kind, place, &mut list[..n], words, keep)
 }

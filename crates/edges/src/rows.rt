@@ -1,11 +1,33 @@
 // The lines: the first letter of each says what it tries. r asks for room figures, s for a set-up, any other is for the list.
-use crate::{buffer, lists};
+use crate::buffer;
+use crate::lists::{Ask, Trial};
 use layout::{Rooms, SetUp, State};
+use lines::Line;
 use std::io;
 use std::io::Write;
 
+// What a line tries.
+#[derive(Clone, Copy, Debug, PartialEq, Eq)]
+enum Kind {
+    Rooms,
+    SetUp,
+    List(Ask),
+}
+
+// What a letter says.
+impl From<u8> for Kind {
+    fn from(letter: u8) -> Kind {
+        match letter {
+            b'r' => Kind::Rooms,
+            b's' => Kind::SetUp,
+            _ => Kind::List(Ask::from(letter)),
+        }
+    }
+}
+
 // Room figures. Given: words, keep. Came: the words needed of map, stack and list.
-fn rooms<W: Write>(out: &mut W, words: usize, keep: usize) -> io::Result<()> {
+fn rooms<W: Write>(out: &mut W, place: &[usize; 48]) -> io::Result<()> {
+    let [_, words, keep, ..] = *place;
     let rooms = Rooms::of(words, keep);
     lines::gave(out, &[rooms.map, rooms.stack, rooms.list])
 }
@@ -19,69 +41,32 @@ fn answer<W: Write>(out: &mut W, got: SetUp) -> io::Result<()> {
     )
 }
 
-// Set-up in buffers full of junk. Came: the answer; how many words of map and of list were written over.
-fn set_up<W: Write>(
-    out: &mut W,
-    heap: &[u32],
-    keep: usize,
-    map: &mut [u32],
-    list: &mut [u32],
-) -> io::Result<()> {
-    answer(out, State::set_up(heap, keep, map, list))?;
-    let all = std::num::wrapping_sub_usize(heap.len(), 1) % 65536;
-    let over_map = buffer::written_over(map, 0, 0);
-    let over_list = buffer::written_over(list, 1, all as u32);
-    lines::numbers(out, &[over_map, over_list], b" ")
+// How much of a buffer was written over, as a number: 999999 if it is neither what set-up writes nor junk.
+fn over(words: &[u32], laid: [u32; 2]) -> usize {
+    buffer::written_over(words, laid).unwrap_or(999999)
 }
 
-// The same, in parts of the buffers as long as the line says. A line that asks for more gives nothing.
-fn set_up_in<W: Write>(
-    out: &mut W,
-    place: [usize; 48],
-    heap: &[u32],
-    map: &mut [u32],
-    list: &mut [u32],
-) -> io::Result<()> {
-    let h = place[1];
-    let m = place[3];
-    let n = place[4];
-    if heap.len() < h {
+// Set-up in buffers full of junk. Given: the words of the heap, keep, the words of map and list. Came: the answer; how many words
+// of map and of list were written over. A line that asks for longer buffers than there are gives nothing.
+fn set_up<W: Write>(out: &mut W, place: &[usize; 48]) -> io::Result<()> {
+    let [_, h, keep, m, n, ..] = *place;
+    let heap = heaps::junk();
+    let mut map = heaps::junk();
+    let mut list = heaps::junk();
+    let (Some(heap), Some(map), Some(list)) = (heap.get(..h), map.get_mut(..m), list.get_mut(..n))
+    else {
         return Ok(());
-    }
-    if map.len() < m {
-        return Ok(());
-    }
-    if list.len() < n {
-        return Ok(());
-    }
-    set_up(out, &heap[..h], place[2], &mut map[..m], &mut list[..n])
+    };
+    answer(out, State::set_up(heap, keep, map, list))?;
+    let all = heaps::cut(h.wrapping_sub(1) % 65536);
+    lines::numbers(out, &[over(map, [0, 0]), over(list, [1, all])], b" ")
 }
 
 // One trial.
-fn trial<W: Write>(out: &mut W, kind: u8, place: [usize; 48]) -> io::Result<()> {
-    if kind == b'r' {
-        return rooms(out, place[1], place[2]);
+pub(crate) fn trial<W: Write>(out: &mut W, line: &Line) -> io::Result<()> {
+    match Kind::from(line.kind) {
+        Kind::Rooms => rooms(out, &line.place),
+        Kind::SetUp => set_up(out, &line.place),
+        Kind::List(ask) => Trial::of(ask, &line.place).run(out, &line.place),
     }
-    let mut list = heaps::junk();
-    if kind != b's' {
-        return lists::trial(out, kind, place, &mut list);
-    }
-    let heap = heaps::junk();
-    let mut map = heaps::junk();
-    set_up_in(out, place, &heap, &mut map, &mut list)
-}
-
-// All lines, a trial each: prints the line, and behind it what came.
-pub(crate) fn all<W: Write>(out: &mut W, text: &[u8]) -> io::Result<()> {
-    let mut at = 0;
-    while at < text.len() {
-        let line = lines::line_at(text, at);
-        let place = line.place;
-        let end = line.end;
-        out.write_all(&text[at..end])?;
-        trial(out, text[at], place)?;
-        lines::end(out)?;
-        at = end + 1;
-    }
-    Ok(())
 }

@@ -3,10 +3,13 @@
 #![tactic(auto)]
 
 mod random;
+mod shapes;
 
 ghost use Rattle.std.specs.Prelude.{◌≡◌, ◌≤◌, length};
 
+use random::Random;
 pub use random::{below, is_time, next};
+use shapes::{Shape, Way};
 
 // A buffer as long as the longest that a trial lends, full of junk, which is 7 in every word.
 pub fn junk() -> [u32; 131073]
@@ -29,141 +32,61 @@ pub fn cut(n: usize) -> u32 {
 
 // Writes numbers to the front of a buffer, as far as it goes.
 pub fn write(from: &[usize], to: &mut [u32]) {
-    for i in 0..from.len() {
-        if to.len() <= i {
-            return;
-        }
-        to[i] = cut(from[i]);
+    for (word, n) in to.iter_mut().zip(from) {
+        *word = cut(*n);
     }
 }
 
 // Writes words of the heap, each given by its address and its value.
 fn write_words(from: &[usize], heap: &mut [u32]) {
-    for i in 0..from.len() / 2 {
-        let a = from[2 * i];
-        if heap.len() <= a {
+    for pair in from.chunks_exact(2) {
+        let Some(word) = heap.get_mut(pair[0]) else {
             return;
-        }
-        heap[a] = cut(from[2 * i + 1]);
+        };
+        *word = cut(pair[1]);
     }
 }
 
 // The words that a line gives: the roots, then addresses and values of words.
-fn given(place: [usize; 48], heap: &mut [u32], roots: &mut [u32]) {
-    let from = &place[9..];
-    let r = roots.len();
-    if from.len() < r {
-        return;
+fn given(from: &[usize], heap: &mut [u32], roots: &mut [u32]) {
+    if let Some((first, behind)) = from.split_at_checked(roots.len()) {
+        write(first, roots);
+        write_words(behind, heap);
     }
-    write(&from[..r], roots);
-    write_words(&from[r..], heap);
 }
 
-// The header of an object of s words with a reference, if it has a word for one.
-fn header(s: usize) -> u32
-    requires { s ≤ 65535 }
-{
-    if s < 2 {
-        return cut(s);
-    }
-    cut(65536 + s)
+// How a heap is laid.
+#[derive(Clone, Copy, Debug, PartialEq, Eq)]
+enum Kind {
+    Given,
+    Random,
+    Chain(Way),
+    Fan,
 }
 
-// What an object of a chain refers to: back to the last one, or on to the next if that is one.
-fn link(kind: u8, last: usize, next: usize, is_next: bool) -> u32 {
-    if kind == b'b' {
-        return cut(last);
-    }
-    if is_next { cut(next) } else { 0 }
-}
-
-// A chain of objects of s words, each d words behind the one before, from word 1 on as far as the heap goes. The last one's
-// address.
-fn chain(kind: u8, heap: &mut [u32], s: usize, d: usize) -> usize
-    requires { (s ≤ 65535) × (1 ≤ d) × (d ≤ 65535) }
-{
-    if s < 2 {
-        return 0;
-    }
-    let mut last = 0;
-    let mut a = 1;
-    while a + s <= heap.len() {
-        let next = a + d;
-        heap[a] = header(s);
-        heap[a + 1] = link(kind, last, next, next + s <= heap.len());
-        last = a;
-        a = next;
-    }
-    last
-}
-
-// Lays p objects of s words from word p + 2 on, each d words behind the one before, and refers to them from word 2 on.
-fn spread(heap: &mut [u32], s: usize, d: usize, p: usize)
-    requires { (s ≤ 65535) × (d ≤ 65535) × (p ≤ 65535) }
-{
-    let mut a = p + 2;
-    for i in 0..p {
-        if heap.len() <= a {
-            return;
+// What a letter says.
+impl From<u8> for Kind {
+    fn from(letter: u8) -> Kind {
+        match letter {
+            b'g' => Kind::Given,
+            b'r' => Kind::Random,
+            b'o' => Kind::Chain(Way::Onward),
+            b'b' => Kind::Chain(Way::Back),
+            _ => Kind::Fan,
         }
-        heap[2 + i] = cut(a);
-        heap[a] = header(s);
-        a += d;
-    }
-}
-
-// A fan: an object of p references at word 1, and the objects that it refers to behind it.
-fn fan(heap: &mut [u32], s: usize, d: usize, p: usize)
-    requires { (s ≤ 65535) × (d ≤ 65535) × (p ≤ 65535) }
-{
-    if heap.len() <= 1 {
-        return;
-    }
-    spread(heap, s, d, p);
-    heap[1] = cut(p + 1 + 65536 * p);
-}
-
-// A chain or a fan. The address of the object that all others are reached from.
-fn shape(kind: u8, heap: &mut [u32], s: usize, d: usize, p: usize) -> usize
-    requires { (s ≤ 65535) × (d ≤ 65535) × (p ≤ 65535) }
-{
-    if d == 0 {
-        return 0;
-    }
-    if kind == b'b' {
-        return chain(kind, heap, s, d);
-    }
-    if kind == b'o' {
-        chain(kind, heap, s, d);
-        return 1;
-    }
-    fan(heap, s, d, p);
-    1
-}
-
-// Writes one root to the whole root list.
-fn repeat(roots: &mut [u32], root: u32) {
-    for i in 0..roots.len() {
-        roots[i] = root;
     }
 }
 
 // Lays the heap and the root list of a line.
 pub fn lay(kind: u8, place: [usize; 48], heap: &mut [u32], roots: &mut [u32]) {
-    if kind == b'g' {
-        given(place, heap, roots);
-        return;
+    match Kind::from(kind) {
+        Kind::Given => given(&place[9..], heap, roots),
+        Kind::Random => {
+            if let Some(random) = Random::of(&place) {
+                random.lay(heap, roots);
+            }
+        }
+        Kind::Chain(way) => roots.fill(cut(Shape::of(&place).chain(way, heap))),
+        Kind::Fan => roots.fill(cut(Shape::of(&place).fan(heap))),
     }
-    if kind == b'r' {
-        random::lay(place, heap, roots);
-        return;
-    }
-    let root = shape(
-        kind,
-        heap,
-        place[9] % 65536,
-        place[10] % 65536,
-        place[11] % 65536,
-    );
-    repeat(roots, cut(root));
 }

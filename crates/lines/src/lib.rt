@@ -3,43 +3,35 @@
 
 ghost use Rattle.std.specs.Prelude.{◌<◌, ◌≤◌, IfOk, length};
 
+use std::fmt::Display;
 use std::io;
 use std::io::{Read, Write};
 use words::wide;
 
-// A line: the number in each place, where places are parted by a space, and where the line ends.
+// A line: its first byte, or LF if it has none; the number in each place, where places are parted by a space; where it ends.
 #[derive(Clone, Copy)]
 pub struct Line {
+    pub kind: u8,
     pub place: [usize; 48],
     pub end: usize,
 }
 
 // A number with one more digit, or as it is where the byte is no digit or the number is large.
 fn more(n: usize, byte: u8) -> usize {
-    if byte < b'0' {
-        return n;
+    match byte {
+        b'0'..=b'9' if n <= 1000000000000 => 10 * n + usize::from(byte - b'0'),
+        _ => n,
     }
-    if b'9' < byte {
-        return n;
-    }
-    if 1000000000000 < n {
-        return n;
-    }
-    10 * n + (byte - b'0') as usize
 }
 
-// The place that a byte stands in: a space begins the next.
-fn next(k: usize, byte: u8) -> usize
-    requires { k ≤ 47 }
-    ensures { result ≤ 47 }
-{
-    if byte != b' ' {
-        return k;
+// The number in each place of a line. The last place has the digits of all that stands behind.
+fn places(line: &[u8]) -> [usize; 48] {
+    let mut place = [0; 48];
+    for (k, part) in line.split(|byte| *byte == b' ').enumerate() {
+        let k = k.min(47);
+        place[k] = part.iter().copied().fold(place[k], more);
     }
-    if k == 47 {
-        return k;
-    }
-    k + 1
+    place
 }
 
 // The line that begins at `at`.
@@ -47,19 +39,16 @@ pub fn line_at(text: &[u8], at: usize) -> Line
     requires { at < length text.now }
     ensures { (at ≤ result.end) × (result.end ≤ length text.now) }
 {
-    let mut place = [0usize; 48];
-    let mut k = 0;
-    let mut end = at;
-    while end < text.len() {
-        let byte = text[end];
-        if byte == b'\n' {
-            break;
-        }
-        k = next(k, byte);
-        place[k] = more(place[k], byte);
-        end += 1;
+    let rest = &text[at..];
+    let size = rest
+        .iter()
+        .position(|byte| *byte == b'\n')
+        .unwrap_or(rest.len());
+    Line {
+        kind: text[at],
+        place: places(&rest[..size]),
+        end: at + size,
     }
-    Line { place, end }
 }
 
 // The line that begins at `at`, as it was printed.
@@ -73,7 +62,27 @@ pub fn printed<W: Write>(out: &mut W, text: &[u8], at: usize) -> io::Result<Line
     Ok(line)
 }
 
-// Reads until the buffer is full or the input ends, and answers how many bytes came.
+// Reads up to 65,536 bytes, prints each line of them, and lets `trial` print what came behind it: what most of the test programs
+// are.
+pub fn run<R: Read, W: Write, F: FnMut(&mut W, &Line) -> io::Result<()>>(
+    from: &mut R,
+    out: &mut W,
+    mut trial: F,
+) -> io::Result<()>
+    requires { F.IsAlwaysCallable trial }
+{
+    let mut text = [0u8; 65536];
+    let n = read_full(from, &mut text)?;
+    for part in text[..n].split_inclusive(|byte| *byte == b'\n') {
+        let line = printed(out, part, 0)?;
+        trial(out, &line)?;
+        end(out)?;
+    }
+    Ok(())
+}
+
+// Reads until the buffer is full or the input ends, and answers how many bytes came. A loop by hand: no method of the library stops
+// at the first of both.
 pub fn read_full<R: Read>(from: &mut R, text: &mut [u8]) -> io::Result<usize>
     ensures { IfOk result (λ n. n ≤ length text.new) }
 {
@@ -100,19 +109,10 @@ pub fn end<W: Write>(out: &mut W) -> io::Result<()> {
 }
 
 // Prints numbers, each behind a space.
-pub fn numbers<W: Write>(out: &mut W, came: &[usize], space: &[u8]) -> io::Result<()> {
-    for i in 0..came.len() {
+pub fn numbers<W: Write, T: Display>(out: &mut W, came: &[T], space: &[u8]) -> io::Result<()> {
+    for n in came {
         out.write_all(space)?;
-        write!(out, "{}", came[i])?;
-    }
-    Ok(())
-}
-
-// Prints the words of a list, each behind a space.
-fn all_words<W: Write>(out: &mut W, list: &[u32], space: &[u8]) -> io::Result<()> {
-    for i in 0..list.len() {
-        out.write_all(space)?;
-        write!(out, "{}", wide(list[i]))?;
+        write!(out, "{n}")?;
     }
     Ok(())
 }
@@ -124,27 +124,19 @@ fn one_more(sum: usize, n: usize) -> usize {
 
 // A sum with more numbers.
 pub fn sum_on(sum: usize, came: &[usize]) -> usize {
-    let mut sum = sum;
-    for i in 0..came.len() {
-        sum = one_more(sum, came[i]);
-    }
-    sum
+    came.iter().copied().fold(sum, one_more)
 }
 
 // A sum over the words of a list.
 pub fn sum(list: &[u32]) -> usize {
-    let mut sum = 0;
-    for i in 0..list.len() {
-        sum = one_more(sum, wide(list[i]));
-    }
-    sum
+    list.iter().copied().map(wide).fold(0, one_more)
 }
 
 // Prints a sum over the words of a list and, of a short list, all of them.
 pub fn buffer<W: Write>(out: &mut W, list: &[u32]) -> io::Result<()> {
     numbers(out, &[sum(list)], b" ")?;
     if list.len() <= 40 {
-        all_words(out, list, b" ")?;
+        numbers(out, list, b" ")?;
     }
     Ok(())
 }

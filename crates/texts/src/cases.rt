@@ -1,62 +1,40 @@
 // An answer for each text. Before a text stands a line that gives its length in bytes and its name.
-ghost use Rattle.std.specs.Prelude.{◌≤◌, length};
-
 use report::ANSWER_ROOM;
 use std::io;
 use std::io::Write;
 
-// Whether all bytes are 7 still.
-fn is_kept(junk: &[u8]) -> bool {
-    for i in 0..junk.len() {
-        if junk[i] != 7 {
-            return false;
-        }
-    }
-    true
-}
-
 // Prints whether all bytes are 7 still.
 fn say_kept<W: Write>(out: &mut W, junk: &[u8]) -> io::Result<()> {
-    if is_kept(junk) {
+    if junk.iter().all(|byte| *byte == 7) {
         out.write_all(b"kept\n")
     } else {
         out.write_all(b"changed\n")
     }
 }
 
-// Prints the first m bytes, and whether those behind them were kept.
-fn show<W: Write>(out: &mut W, answer: &[u8], m: usize) -> io::Result<()>
-    requires { m ≤ length answer.now }
-{
-    out.write_all(&answer[..m])?;
-    say_kept(out, &answer[m..])
-}
-
-// One text, answered in a buffer that was full of 7s.
+// Answers one text in a buffer that was full of 7s: prints the answer, and whether the bytes behind it were kept.
 fn trial<W: Write>(out: &mut W, text: &[u8]) -> io::Result<()> {
     let mut answer = [7u8; ANSWER_ROOM];
     let m = report::answer(text, &mut answer);
-    show(out, &answer, m)
+    let (shown, behind) = answer.split_at(m);
+    out.write_all(shown)?;
+    say_kept(out, behind)
 }
 
-// All texts: prints the line before each, and then its answer.
+// All texts: prints the line before each, and then its answer. A loop by hand: a text may have line feeds in it, so only its length
+// says where the next line begins.
 pub(crate) fn all<W: Write>(out: &mut W, input: &[u8]) -> io::Result<()> {
-    let n = input.len();
     let mut at = 0;
-    while at < n {
+    while at < input.len() {
         let line = lines::printed(out, input, at)?;
         lines::end(out)?;
-        let place = line.place;
-        let size = place[0];
         let from = line.end + 1;
-        if n < from {
+        let size = line.place[0];
+        let Some(text) = input.get(from..).and_then(|rest| rest.get(..size)) else {
             return Ok(());
-        }
-        if n - from < size {
-            return Ok(());
-        }
-        at = from + size;
-        trial(out, &input[from..at])?;
+        };
+        trial(out, text)?;
+        at = from + text.len();
     }
     Ok(())
 }

@@ -2,5 +2,5 @@
 use Rattle.report.specs.AnswerLaws.{reports_inside}
 use Rattle.texts.proofs.cases.trial.Goals as goal
 
-pub show-requires : goal.show-requires
-show-requires g c = reports_inside _ _ c.answer-m.ensures
+pub split_at-requires : goal.split_at-requires
+split_at-requires g c = reports_inside _ _ c.answer-m.ensures
