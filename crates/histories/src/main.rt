@@ -10,7 +10,5 @@ mod turn;
 use std::io;
 
 fn main(rt: HostRuntime) -> io::Result<()> {
-    let mut text = [0u8; 65536];
-    let n = lines::read_full(&mut rt.stdin(), &mut text)?;
-    rows::all(&mut rt.stdout(), &text[..n])
+    lines::run(&mut rt.stdin(), &mut rt.stdout(), rows::history)
 }

@@ -3,6 +3,7 @@ ghost use Rattle.std.specs.Prelude.{◌≤◌};
 
 use crate::player::Player;
 use layout::Rooms;
+use lines::Line;
 use std::io;
 use std::io::Write;
 
@@ -41,7 +42,8 @@ fn lent(needed: usize, more: usize) -> usize
 }
 
 // A history in parts of buffers full of junk, set up once: prints the book, and sums over all words lent of heap, map, stack and list.
-fn history<W: Write>(out: &mut W, plan: Plan) -> io::Result<()> {
+pub(crate) fn history<W: Write>(out: &mut W, line: &Line) -> io::Result<()> {
+    let plan = Plan::from(line.place);
     let words = heaps::part(plan.words);
     let rooms = Rooms::of(words, plan.keep);
     let more = plan.more;
@@ -59,16 +61,4 @@ fn history<W: Write>(out: &mut W, plan: Plan) -> io::Result<()> {
     player.play(plan.turns, plan.seed, plan.seldom);
     player.book.print(out)?;
     lines::numbers(out, &player.sums(), b" ")
-}
-
-// All lines, a history each: prints the line, and behind it what came.
-pub(crate) fn all<W: Write>(out: &mut W, text: &[u8]) -> io::Result<()> {
-    let mut at = 0;
-    while at < text.len() {
-        let line = lines::printed(out, text, at)?;
-        history(out, Plan::from(line.place))?;
-        lines::end(out)?;
-        at = line.end + 1;
-    }
-    Ok(())
 }
