@@ -1,6 +1,6 @@
 // The calls, each with what a line gives. What it answers is printed, its code first.
 use crate::rows::Station;
-use layout::State;
+use layout::{Refusal, State};
 use std::io;
 use std::io::Write;
 
@@ -29,6 +29,11 @@ impl From<u8> for Call {
     }
 }
 
+// The number of a call's refusal, or 0.
+fn code(refusal: Option<Refusal>) -> usize {
+    refusal.map_or(0, Refusal::number) as usize
+}
+
 impl Station {
     // Makes a call, with the numbers of a line.
     pub(crate) fn call<W: Write>(
@@ -51,8 +56,8 @@ impl Station {
     // Sets up with a keep length. Came: the code.
     fn set_up<W: Write>(&mut self, out: &mut W, keep: usize) -> io::Result<()> {
         let got = State::set_up(&self.heap, keep, &mut self.map, &mut self.list);
-        self.state = got.state;
-        lines::gave(out, &[got.code as usize])
+        self.state = got.unwrap_or_default();
+        lines::gave(out, &[code(got.err())])
     }
 
     // Collects from the roots that a line gives: how many, up to 45, and which. Came: code and place, the counts; all that was
@@ -69,18 +74,25 @@ impl Station {
             &mut self.stack,
             &mut self.list,
         );
-        self.state = got.state;
-        lines::gave(
-            out,
-            &[
-                got.code as usize,
-                got.place,
-                got.objects,
-                got.live,
-                got.references,
-                got.peak,
-            ],
-        )?;
+        let came = match got {
+            Ok(found) => {
+                self.state = found.state;
+                [
+                    0,
+                    0,
+                    found.objects,
+                    found.live,
+                    found.references,
+                    found.peak,
+                ]
+            }
+            Err(refused) => {
+                let fault = refused.fault;
+                self.state = refused.state;
+                [code(Some(fault.refusal)), fault.place, 0, 0, 0, 0]
+            }
+        };
+        lines::gave(out, &came)?;
         lines::buffer(out, &self.stack)
     }
 
@@ -94,30 +106,39 @@ impl Station {
             s,
             p,
         );
-        self.state = got.state;
-        lines::gave(out, &[got.code as usize, got.address])
+        let came = match got {
+            Ok(made) => {
+                self.state = made.state;
+                [0, made.address]
+            }
+            Err(refused) => {
+                self.state = refused.state;
+                [code(Some(refused.refusal)), 0]
+            }
+        };
+        lines::gave(out, &came)
     }
 
     // Reads field k of the object at a. Came: code and value.
     fn read<W: Write>(&self, out: &mut W, a: usize, k: usize) -> io::Result<()> {
         let got = store::read(self.state, &self.heap, &self.map, a, k);
-        lines::gave(out, &[got.code as usize, got.value as usize])
+        lines::gave(out, &[code(got.err()), got.unwrap_or_default() as usize])
     }
 
     // Stores v in field k of the object at a. Came: the code.
     fn write<W: Write>(&mut self, out: &mut W, a: usize, k: usize, v: u32) -> io::Result<()> {
-        let code = store::write(self.state, &mut self.heap, &self.map, a, k, v);
-        lines::gave(out, &[code as usize])
+        let got = store::write(self.state, &mut self.heap, &self.map, a, k, v);
+        lines::gave(out, &[code(got.err())])
     }
 
     // Surveys. Came: the code; listed, largest, fragment.
     fn survey<W: Write>(&self, out: &mut W) -> io::Result<()> {
         let got = store::survey(self.state, &self.list);
-        let figures = got.figures;
+        let figures = got.unwrap_or_default();
         lines::gave(
             out,
             &[
-                got.code as usize,
+                code(got.err()),
                 figures.listed,
                 figures.largest,
                 figures.fragment,

@@ -1,28 +1,32 @@
 // A collection for each line. A line gives words, keep and count of the state; the lengths of heap, map, stack, list and
 // root list; and, from its ninth number on, what its heap needs.
-use collector::Collected;
+use collector::{Collection, Refused};
 use layout::State;
 use lines::Line;
 use std::io;
 use std::io::Write;
 
 // Prints what a collection answered: code and place, the counts; words, keep and count of the state.
-fn answer<W: Write>(out: &mut W, got: Collected) -> io::Result<()> {
-    let state = got.state;
-    lines::gave(
-        out,
-        &[
-            got.code as usize,
-            got.place,
-            got.objects,
-            got.live,
-            got.references,
-            got.peak,
-            state.words,
-            state.keep,
-            state.count,
-        ],
-    )
+fn answer<W: Write>(out: &mut W, got: Result<Collection, Refused>) -> io::Result<()> {
+    let (came, state) = match got {
+        Ok(found) => {
+            let came = [
+                0,
+                0,
+                found.objects,
+                found.live,
+                found.references,
+                found.peak,
+            ];
+            (came, found.state)
+        }
+        Err(refused) => {
+            let code = refused.fault.refusal.number() as usize;
+            ([code, refused.fault.place, 0, 0, 0, 0], refused.state)
+        }
+    };
+    lines::gave(out, &came)?;
+    lines::numbers(out, &[state.words, state.keep, state.count], b" ")
 }
 
 // One collection, of a heap laid in clear words, in buffers full of junk that are as long as the line says. Came: the answer; then

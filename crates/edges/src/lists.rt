@@ -2,7 +2,6 @@
 ghost use Rattle.std.specs.Prelude.{◌≡◌, true, length};
 ghost use Rattle.layout.specs.Limits.{within, list_words};
 
-use freelist::search::Found;
 use freelist::{Figures, records, search};
 use layout::Rooms;
 use std::io;
@@ -80,10 +79,9 @@ impl Trial {
 
     // The trial of a comb or of the list that a line gives, if words and keep length are within the limits.
     pub(crate) fn run<W: Write>(self, out: &mut W, place: &[usize; 48]) -> io::Result<()> {
-        let rooms = Rooms::of(self.words, self.keep);
-        if rooms.map == 0 {
+        let Ok(rooms) = Rooms::needed(self.words, self.keep) else {
             return Ok(());
-        }
+        };
         let mut list = heaps::junk();
         let Some(list) = list.get_mut(..rooms.list) else {
             return Ok(());
@@ -116,7 +114,7 @@ impl Trial {
                 lines::gave(out, &[1, figures.listed, figures.largest, figures.fragment])
             }
             Ask::Front => {
-                let Found::At(j) = search::fitting(list, count, s) else {
+                let Some(j) = search::fitting(list, count, s) else {
                     return lines::gave(out, &[1, count]);
                 };
                 let left = split::take_front(list, count, keep, s, j);
@@ -124,7 +122,7 @@ impl Trial {
             }
             Ask::Off | Ask::Comb if s == 0 || words < s || words < a => Ok(()),
             Ask::Off | Ask::Comb => {
-                let Found::At(j) = search::holding(list, count, a, s) else {
+                let Some(j) = search::holding(list, count, a, s) else {
                     return lines::gave(out, &[1, count]);
                 };
                 let left = split::take_off(list, count, keep, a, s, j);

@@ -1,7 +1,7 @@
 // The lines: the first letter of each says what it tries. r asks for room figures, s for a set-up, any other is for the list.
 use crate::buffer;
 use crate::lists::{Ask, Trial};
-use layout::{Rooms, SetUp, State};
+use layout::{Refusal, Rooms, State};
 use lines::Line;
 use std::io;
 use std::io::Write;
@@ -33,12 +33,10 @@ fn rooms<W: Write>(out: &mut W, place: &[usize; 48]) -> io::Result<()> {
 }
 
 // What set-up answered: its code; words, keep and count of the state.
-fn answer<W: Write>(out: &mut W, got: SetUp) -> io::Result<()> {
-    let state = got.state;
-    lines::gave(
-        out,
-        &[got.code as usize, state.words, state.keep, state.count],
-    )
+fn answer<W: Write>(out: &mut W, got: Result<State, Refusal>) -> io::Result<()> {
+    let code = got.err().map_or(0, Refusal::number) as usize;
+    let state = got.unwrap_or_default();
+    lines::gave(out, &[code, state.words, state.keep, state.count])
 }
 
 // How much of a buffer was written over, as a number: 999999 if it is neither what set-up writes nor junk.

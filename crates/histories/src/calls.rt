@@ -60,7 +60,12 @@ impl Player<'_> {
             Ok(found) => (None, 0, Finds::from(found), found.state),
             Err(refused) => {
                 let fault = refused.fault;
-                (Some(fault.refusal), fault.place, Finds::default(), refused.state)
+                (
+                    Some(fault.refusal),
+                    fault.place,
+                    Finds::default(),
+                    refused.state,
+                )
             }
         };
         let came = [

@@ -22,10 +22,10 @@ take_front-left-requires g c =
     let t = c.args in
     let o = valid_ordered _ _ _ _ (sym c.are_valid.ensures ∙ c.if-not-are_valid.false) in
     let l = limits _ _ c.requires.0 in
-    let here = fitting_in t.self.s (records t.count t.list.now) c.fitting.ensures c.in-At.j c.in-At.is in
+    let here = fitting_in t.self.s (records t.count t.list.now) c.fitting.ensures c.in-Some.j c.in-Some.is in
     record {
       room = (omega (arith, o.0), l.keeps);
-      listed = (omega (arith, here.high, ordered_last o.1 c.in-At.j here.there, l), here);
+      listed = (omega (arith, here.high, ordered_last o.1 c.in-Some.j here.there, l), here);
     }
 
 pub holding-requires : goal.holding-requires
@@ -38,8 +38,8 @@ take_off-left-requires g c =
     let t = c.args in
     let o = valid_ordered _ _ _ _ (sym c.are_valid.ensures ∙ c.if-not-are_valid.false) in
     let l = limits _ _ c.requires.0 in
-    let here = holder_in t.self.a t.self.s (records t.count t.list.now) c.holding.ensures c.in-At-holding.j c.in-At-holding.is in
+    let here = holder_in t.self.a t.self.s (records t.count t.list.now) c.holding.ensures c.in-Some-holding.j c.in-Some-holding.is in
     record {
       listed = (omega (arith, o.0), omega (arith, l), here);
-      room = omega (arith, cut_fits l.keeps (omega arith) o.1 c.in-At-holding.j here);
+      room = omega (arith, cut_fits l.keeps (omega arith) o.1 c.in-Some-holding.j here);
     }
