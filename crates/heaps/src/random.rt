@@ -9,6 +9,14 @@ pub fn next(x: usize) -> usize {
     (x % 2147483648 * 1103515245 + 12345) % 2147483648
 }
 
+// The next number in such a row, which goes on to it.
+pub fn draw(row: &mut usize) -> usize
+    ensures { result ≡ row.new }
+{
+    *row = next(*row);
+    *row
+}
+
 // A number below n that goes by x.
 pub fn below(x: usize, n: usize) -> usize
     requires { 1 ≤ n }

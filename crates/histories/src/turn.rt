@@ -1,7 +1,7 @@
 // What a turn chooses, by the numbers drawn for it.
 ghost use Rattle.std.specs.Prelude.{◌<◌, ◌≤◌};
 
-use heaps::{below, cut, is_time};
+use heaps::{below, cut, draw, is_time};
 use words::{Header, wide};
 
 // The slots: each is empty, or has the address of an object.
@@ -30,12 +30,6 @@ pub(crate) struct Turn {
     part: usize,
     extra: usize,
     pub(crate) is_loss: bool,
-}
-
-// The next number in a row of pseudo-random ones.
-fn draw(row: &mut usize) -> usize {
-    *row = heaps::next(*row);
-    *row
 }
 
 // A number from 0 to n that goes by x; n is below 1,048,576.

@@ -2,7 +2,7 @@
 ghost use Rattle.std.specs.Prelude.{◌≤◌};
 
 use crate::groups::{Group, Kind};
-use heaps::{below, cut, next};
+use heaps::{below, cut, draw, next};
 use layout::Rooms;
 
 // An image: its words and keep length, a count that a collection ignores, junk, how many words of map, stack and list are needed, and
@@ -20,12 +20,6 @@ pub(crate) struct Image {
     told: [usize; 5],
     overwritten: usize,
     seed: usize,
-}
-
-// The next number in a row of pseudo-random ones.
-fn draw(row: &mut usize) -> usize {
-    *row = next(*row);
-    *row
 }
 
 // Passes over so many numbers of the row.
