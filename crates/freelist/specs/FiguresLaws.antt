@@ -1,10 +1,9 @@
 -- Laws of the survey's figures.
-use Rattle.std.specs.Prelude.{ℕ, ◌+◌, ◌≤◌, ◌<◌, max, ◌≡◌, List, [], ◌∷◌, drop}
-use Rattle.std.proofs.Common.{arith}
+use Rattle.std.specs.Prelude.{ℕ, ◌+◌, ◌≤◌, ◌<◌, max, ◌≡◌, List, [], ◌∷◌, length, drop}
+use Rattle.std.proofs.Common.{arith, drop_of_length-le}
 use Rattle.layout.specs.declared.Interval.{Interval}
-use Rattle.runs.specs.Lists.{listed}
-use Rattle.freelist.specs.Records.{record_at, records}
-use Rattle.freelist.specs.RecordsLaws.{records_next, records_end}
+use Rattle.runs.specs.Lists.{interval_at, listed}
+use Rattle.freelist.specs.RecordsLaws.{interval_next}
 use Rattle.freelist.specs.Figures.{largest}
 
 -- The largest interval has no more words than all together.
@@ -13,22 +12,22 @@ unfolding largest listed
 largest_listed [] = omega arith
 largest_listed (i ∷ l) = omega (arith, largest_listed l)
 
--- The figures, one record at a time.
-module _ (n : ℕ) (list : List ℕ) (i : ℕ) (l : i < n) where
-  pub listed_next : listed (drop i (records n list)) ≡ (record_at list i).size + listed (drop (i + 1) (records n list))
+-- The figures, one interval at a time.
+module _ (l : List Interval) (i : ℕ) (h : i < length l) where
+  pub listed_next : listed (drop i l) ≡ (interval_at l i).size + listed (drop (i + 1) l)
   unfolding listed
-  listed_next = rw (records_next n list i l, listed)
+  listed_next = rw (interval_next l i h, listed)
 
-  pub largest_next : largest (drop i (records n list)) ≡ max (record_at list i).size (largest (drop (i + 1) (records n list)))
+  pub largest_next : largest (drop i l) ≡ max (interval_at l i).size (largest (drop (i + 1) l))
   unfolding largest
-  largest_next = rw (records_next n list i l, largest)
+  largest_next = rw (interval_next l i h, largest)
 
 -- Past the last there is nothing to add.
-module _ (n : ℕ) (list : List ℕ) (i : ℕ) (e : i ≡ n) where
-  pub listed_end : listed (drop i (records n list)) ≡ 0
+module _ (l : List Interval) (i : ℕ) (e : i ≡ length l) where
+  pub listed_end : listed (drop i l) ≡ 0
   unfolding listed
-  listed_end = rw (records_end n list i e)
+  listed_end = rw (drop_of_length-le l {i = i} (omega arith))
 
-  pub largest_end : largest (drop i (records n list)) ≡ 0
+  pub largest_end : largest (drop i l) ≡ 0
   unfolding largest
-  largest_end = rw (records_end n list i e)
+  largest_end = rw (drop_of_length-le l {i = i} (omega arith))

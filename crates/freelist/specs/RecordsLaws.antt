@@ -1,6 +1,6 @@
 -- Laws of the list's words and of refusal 3's rule.
 use Rattle.std.specs.Prelude.{ℕ, zero, suc, ◌+◌, ◌*◌, ◌/◌, ◌≤◌, ◌<◌, ◌≡◌, refl, ◌↔◌, true, false, ◌&&◌, List, [], ◌∷◌, ◌++◌, length, get_or, take, drop, leb, ltb}
-use Rattle.std.proofs.Common.{sym, ap, ◌∙◌, arith, drop-cons, le-leb, lt-ltb, ltb-true, leb-true}
+use Rattle.std.proofs.Common.{get_or-take, sym, ap, ◌∙◌, arith, drop-cons, le-leb, lt-ltb, ltb-true, leb-true}
 use Rattle.std.proofs.Math.Bool.{and-eq-true_iff}
 use Rattle.std.proofs.Math.Seq.{drop-length}
 use Rattle.std.proofs.lemmas.Bool.{lt-leb}
@@ -8,7 +8,8 @@ use Rattle.layout.specs.declared.Interval.{Interval}
 use Rattle.layout.specs.Limits.{list_room, list_words}
 use Rattle.layout.specs.Intervals.{flat}
 use Rattle.runs.specs.Lists.{nowhere, interval_at, end, Ordered, none, one}
-use Rattle.freelist.specs.Records.{record_at, records, in_order, valid_list}
+use Rattle.std.specs.Simd.{first_chunks}
+use Rattle.freelist.specs.Records.{record_at, interval_of, intervals, records, in_order, valid_list}
 
 -- As many intervals are read as records.
 pub length-records : (n : ℕ) (list : List ℕ) → length (records n list) ≡ n
@@ -41,6 +42,35 @@ records_next n list i h =
 -- From the count on comes none.
 pub records_end : (n : ℕ) (list : List ℕ) (i : ℕ) → i ≡ n → drop i (records n list) ≡ []
 records_end n list i e = rw (e ∙ sym (length-records n list)) (drop-length (records n list))
+
+-- The records of a list are its words in pairs.
+pub pairs_records : (n k : ℕ) (list : List ℕ) → n ≤ k → intervals (take n (first_chunks 2 k list)) ≡ records n list
+unfolding records intervals
+pairs_records zero k list h = refl
+pairs_records (suc n) zero list h = absurd (omega arith)
+pairs_records (suc n) (suc k) list h =
+    let start : get_or (take 2 list) 0 0 ≡ get_or list 0 0 = get_or-take 2 list 0 0 (omega arith) in
+    let size : get_or (take 2 list) 1 0 ≡ get_or list 1 0 = get_or-take 2 list 1 0 (omega arith) in
+    rw (start, size, pairs_records n k (drop 2 list) (omega arith)) refl
+
+-- There are as many intervals as pairs.
+pub length-intervals : (pairs : List (List ℕ)) → length (intervals pairs) ≡ length pairs
+unfolding intervals
+length-intervals [] = refl
+length-intervals (p ∷ pairs) = ap suc (length-intervals pairs)
+
+-- The interval at a place is that of the pair there.
+pub interval_pair : (pairs : List (List ℕ)) (i : ℕ) (d : List ℕ) → i < length pairs → interval_at (intervals pairs) i ≡ interval_of (get_or pairs i d)
+unfolding intervals
+interval_pair [] i d h = absurd (omega arith)
+interval_pair (p ∷ pairs) zero d h = refl
+interval_pair (p ∷ pairs) (suc i) d h = interval_pair pairs i d (omega arith)
+
+-- From place i on comes the interval there, and then those behind it.
+pub interval_next : (l : List Interval) (i : ℕ) → i < length l → drop i l ≡ interval_at l i ∷ drop (i + 1) l
+interval_next l i h =
+    let next : i + 1 ≡ suc i = omega arith in
+    rw next (drop-cons l i nowhere h)
 
 -- The records in a list's front are the list's.
 pub records_part : (n m : ℕ) (list : List ℕ) → 2 * n ≤ m → records n (take m list) ≡ records n list

@@ -1,8 +1,7 @@
 -- Laws of the searches.
-use Prim.Native.Nat.{ℕ, zero, suc, ◌+◌, ◌*◌, ◌≤◌, ◌<◌}
-use Rattle.std.specs.Prelude.{◌≡◌, refl, Bool, true, false, cond, List, [], ◌∷◌, length, get_or, take, drop, leb, Option, Some, None}
-use Rattle.std.proofs.Common.{sym, ap, subst, ◌∙◌, get_or-take, get_or-drop, drop-drop, length-take}
-use Rattle.std.specs.Simd.{first_chunks}
+use Prim.Native.Nat.{ℕ, zero, suc, ◌+◌, ◌≤◌, ◌<◌}
+use Rattle.std.specs.Prelude.{◌≡◌, refl, Bool, true, false, cond, List, [], ◌∷◌, length, get_or, drop, leb, Option, Some, None}
+use Rattle.std.proofs.Common.{sym, ap, subst, drop_of_length-le}
 use Rattle.std.specs.List.Sorted.{IsPartitionedBy, IsPartitionPoint}
 use Rattle.std.proofs.Math.Bool.{and-eq-true_iff, and-false}
 use native.Mathlib.Omega.{arith}
@@ -12,8 +11,8 @@ use Rattle.layout.specs.declared.Interval.{Interval}
 use Rattle.runs.specs.Lists.{interval_at, end, In, Holds, Ordered}
 use Rattle.runs.proofs.LongestLaws.{clash}
 use Rattle.runs.proofs.OrderLaws.{ordered_apart}
-use Rattle.freelist.specs.Records.{record_at, records}
-use Rattle.freelist.specs.RecordsLaws.{length-records, record_at_lem, records_next, records_end}
+use Rattle.freelist.specs.Records.{intervals}
+use Rattle.freelist.specs.RecordsLaws.{length-intervals, interval_pair, interval_next}
 use Rattle.freelist.specs.Search.{first_from, fits, fitting, contains, holder, Sorted}
 
 -- An ordered list is sorted.
@@ -61,20 +60,20 @@ tells_first test j l f t = same (first_from test j l) f (first_tells test j l) t
     same None None every every' = refl
 
 -- The turns of a search by place: none is left, this one passes, or the next is looked at.
-module _ (test : Interval → Bool) (n : ℕ) (list : List ℕ) (i : ℕ) where
-  pub first_end : i ≡ n → first_from test i (drop i (records n list)) ≡ None
+module _ (test : Interval → Bool) (l : List Interval) (i : ℕ) where
+  pub first_end : i ≡ length l → first_from test i (drop i l) ≡ None
   unfolding first_from
-  first_end e = rw (records_end n list i e)
+  first_end e = rw (drop_of_length-le l {i = i} (omega arith))
 
-  pub first_here : i < n → test (record_at list i) ≡ true → first_from test i (drop i (records n list)) ≡ Some i
+  pub first_here : i < length l → test (interval_at l i) ≡ true → first_from test i (drop i l) ≡ Some i
   unfolding first_from
-  first_here l e = rw (records_next n list i l, first_from, e)
+  first_here h e = rw (interval_next l i h, first_from, e)
 
-  pub first_next : i < n → test (record_at list i) ≡ false → first_from test i (drop i (records n list)) ≡ first_from test (i + 1) (drop (i + 1) (records n list))
+  pub first_next : i < length l → test (interval_at l i) ≡ false → first_from test i (drop i l) ≡ first_from test (i + 1) (drop (i + 1) l)
   unfolding first_from
-  first_next l e =
+  first_next h e =
       let next : i + 1 ≡ suc i = omega arith in
-      rw (records_next n list i l, first_from, e, next)
+      rw (interval_next l i h, first_from, e, next)
 
 -- What an answer of a search says of the list.
 module _ (test : Interval → Bool) (l : List Interval) {f : Option ℕ} (e : f ≡ first_from test 0 l) where
@@ -141,7 +140,7 @@ module _ (a s : ℕ) (l : List Interval) {f : Option ℕ} (e : f ≡ holder a s 
   holder_none p (j, i) = clash (in_contains a s (interval_at l j) i.low i.high) (first_none (contains a s) l e p j i.there)
 
 -- Halving has come to one place: intervals before it end below a, those behind it start above a, and it alone is left to look at.
-holder_left : (a s : ℕ) (l : List Interval) (lo hi : ℕ) → Sorted l → lo < length l → hi ≤ suc lo → (0 < lo → (interval_at l lo).start ≤ a) → (hi < length l → a < (interval_at l hi).start)
+pub holder_left : (a s : ℕ) (l : List Interval) (lo hi : ℕ) → Sorted l → lo < length l → hi ≤ suc lo → (0 < lo → (interval_at l lo).start ≤ a) → (hi < length l → a < (interval_at l hi).start)
     → holder a s l ≡ cond (contains a s (interval_at l lo)) (Some lo) None
 unfolding holder
 holder_left a s l lo hi sorted inside near low high = go (contains a s (interval_at l lo)) refl
@@ -167,64 +166,36 @@ holder_left a s l lo hi sorted inside near low high = go (contains a s (interval
               | no other ↦ elim (dec_le m lo) [ yes h ↦ before m (omega arith) | no h ↦ behind m (omega arith) o ]
             ]
 
--- The same of records, with what the test of that record gave.
-pub holding_left : (a s n : ℕ) (list : List ℕ) (lo hi : ℕ) {r : Interval} {t : Bool} → r ≡ record_at list lo → Sorted (records n list) → lo < n → hi ≤ suc lo → (0 < lo → (record_at list lo).start ≤ a) → (hi < n → a < (record_at list hi).start)
-    → contains a s r ≡ t → holder a s (records n list) ≡ cond t (Some lo) None
-holding_left a s n list lo hi e sorted inside near low high test =
-    let same : length (records n list) ≡ n = length-records n list in
-    let here : interval_at (records n list) lo ≡ record_at list lo = record_at_lem n list lo inside in
-    rw (← test, e ∙ sym here) (holder_left a s (records n list) lo hi sorted (omega arith) near (λ x. rw here (low x)) (λ x. rw (record_at_lem n list hi (omega arith)) (high (omega arith))))
-
--- The pairs of words that stand for records.
+-- Where the first interval starts behind a, none holds the words.
+pub holding_none : (a s : ℕ) (l : List Interval) → Sorted l → (0 < length l → a < (interval_at l 0).start) → holder a s l ≡ None
+unfolding holder
+holding_none a s l sorted first = tells_first (contains a s) 0 l None every
+  where
+    every : (m : ℕ) → m < length l → contains a s (interval_at l m) ≡ false
+    every zero h = behind_contains a s (interval_at l 0) (first (omega arith))
+    every (suc m) h = behind_contains a s (interval_at l (suc m)) (omega (arith, sorted 0 (suc m) (omega arith) h, first (omega arith)))
 
 -- A pair starts at a or before it.
 abbrev pub starts_by : ℕ → List ℕ → Bool
 starts_by a pair = leb (get_or pair 0 0) a
 
--- The pair at a place has the two words of its record.
-pair_at : (k : ℕ) (list : List ℕ) (i : ℕ) (d : List ℕ) → i < k → get_or (first_chunks 2 k list) i d ≡ take 2 (drop (2 * i) list)
-pair_at zero list i d h = absurd (omega arith)
-pair_at (suc k) list zero d h = refl
-pair_at (suc k) list (suc i) d h =
-    let e : 2 * suc i ≡ 2 + 2 * i = omega arith in
-    pair_at k (drop 2 list) i d (omega arith) ∙ ap (λ (l : List ℕ). take 2 l) (rw e (drop-drop (2 * i) 2 list))
-
--- So it starts where its record does.
-pair_start : (n k : ℕ) (list : List ℕ) (i : ℕ) (d : List ℕ) → n ≤ k → i < n → get_or (get_or (take n (first_chunks 2 k list)) i d) 0 0 ≡ (record_at list i).start
-pair_start n k list i d few h =
-    let here : 2 * i + 0 ≡ 2 * i = omega arith in
-    ap (λ (p : List ℕ). get_or p 0 0) (get_or-take n (first_chunks 2 k list) i d h ∙ pair_at k list i d (omega arith))
-    ∙ get_or-take 2 (drop (2 * i) list) 0 0 (omega arith) ∙ get_or-drop (2 * i) list 0 0 ∙ ap (λ (m : ℕ). get_or list m 0) here
-
 -- The pairs of a sorted list are parted by where they start.
-pub pairs_parted : (a n k : ℕ) (list : List ℕ) → n ≤ k → Sorted (records n list) → IsPartitionedBy (starts_by a) (take n (first_chunks 2 k list))
-pairs_parted a n k list few sorted i j d order there p =
-    let inside : j < n = omega (arith, length-take n (first_chunks 2 k list)) in
-    let start : (record_at list j).start ≤ a = rw (pair_start n k list j d few inside) at (leb-true _ a p) in
-    elim (ℕ_discrete i j) [
-      | yes same ↦ subst (λ (m : ℕ). starts_by a (get_or (take n (first_chunks 2 k list)) m d) ≡ true) (sym same) p
-      | no other ↦
-          let apart = rw (record_at_lem n list i (omega arith), record_at_lem n list j inside) at (sorted i j (omega arith) (omega (arith, length-records n list))) in
-          le-leb _ a (rw (pair_start n k list i d few (omega arith)) (omega arith))
-    ]
+module _ (a : ℕ) (pairs : List (List ℕ)) where
+  starts : (i : ℕ) (d : List ℕ) → i < length pairs → get_or (get_or pairs i d) 0 0 ≡ (interval_at (intervals pairs) i).start
+  starts i d h = ap (λ (x : Interval). x.start) (sym (interval_pair pairs i d h))
 
--- What the place between the two parts tells of the records on both its sides.
-pub pairs_point : (a n k : ℕ) (list : List ℕ) (b : ℕ) → n ≤ k → length (take n (first_chunks 2 k list)) ≡ n → IsPartitionPoint (λ y. starts_by a y ≡ true) (λ y. starts_by a y ≡ false) (take n (first_chunks 2 k list)) b
-    → ((j : ℕ) → j < b → j < n → (record_at list j).start ≤ a) × (b < n → a < (record_at list b).start)
-pairs_point a n k list b few long point = (
-  λ j low inside. rw (pair_start n k list j [] few inside) at (leb-true _ a (point.0 j [] (omega arith) low)),
-  λ inside. rw (pair_start n k list b [] few inside) at (leb-false _ a (point.1 b [] (omega arith) (omega arith))),
-)
+  pub pairs_parted : Sorted (intervals pairs) → IsPartitionedBy (starts_by a) pairs
+  pairs_parted sorted i j d order there p =
+      let start : (interval_at (intervals pairs) j).start ≤ a = rw (starts j d there) at (leb-true _ a p) in
+      elim (ℕ_discrete i j) [
+        | yes same ↦ subst (λ (m : ℕ). starts_by a (get_or pairs m d) ≡ true) (sym same) p
+        | no other ↦ le-leb _ a (rw (starts i d (omega arith)) (omega (arith, sorted i j (omega arith) (omega (arith, length-intervals pairs)))))
+      ]
 
--- Where the first record starts behind a, none holds the words.
-pub holding_none : (a s n : ℕ) (list : List ℕ) → Sorted (records n list) → (0 < n → a < (record_at list 0).start) → holder a s (records n list) ≡ None
-unfolding holder
-holding_none a s n list sorted first = tells_first (contains a s) 0 (records n list) None every
-  where
-    every : (m : ℕ) → m < length (records n list) → contains a s (interval_at (records n list) m) ≡ false
-    every zero h = behind_contains a s (interval_at (records n list) 0) (rw (record_at_lem n list 0 (omega (arith, length-records n list))) (first (omega (arith, length-records n list))))
-    every (suc m) h =
-        let n1 = length-records n list in
-        let apart = sorted 0 (suc m) (omega arith) h in
-        let low : a < (interval_at (records n list) 0).start = rw (record_at_lem n list 0 (omega arith)) (first (omega arith)) in
-        behind_contains a s (interval_at (records n list) (suc m)) (omega arith)
+  -- What the place between the two parts tells of the intervals on both its sides.
+  pub pairs_point : (b : ℕ) → IsPartitionPoint (λ y. starts_by a y ≡ true) (λ y. starts_by a y ≡ false) pairs b
+      → ((j : ℕ) → j < b → j < length pairs → (interval_at (intervals pairs) j).start ≤ a) × (b < length pairs → a < (interval_at (intervals pairs) b).start)
+  pairs_point b point = (
+    λ j low inside. rw (starts j [] inside) at (leb-true _ a (point.0 j [] (omega arith) low)),
+    λ inside. rw (starts b [] inside) at (leb-false _ a (point.1 b [] (omega arith) inside)),
+  )

@@ -1,10 +1,10 @@
 // The survey's figures.
-ghost use Rattle.std.specs.Prelude.{◌≡◌, ◌*◌, ◌≤◌, ◌<◌, length};
+ghost use Rattle.std.specs.Prelude.{◌≡◌, ◌≤◌, ◌<◌};
 ghost use Rattle.runs.specs.Lists.{listed};
-ghost use Rattle.freelist.specs.Records.{records};
+ghost use Rattle.freelist.specs.Records.{intervals};
 ghost use Rattle.freelist.specs.Figures.{fragment_of, figures_of};
 
-use crate::records;
+use crate::records::{Record, interval};
 
 // Listed words, the words of the largest interval, and how far the list is fragmented, in thousandths.
 #[derive(Clone, Copy, Default)]
@@ -15,16 +15,15 @@ pub struct Figures {
 }
 
 impl Figures {
-    // The figures of the records below the count.
-    pub fn of(list: &[u32], count: usize) -> Figures
-        requires { (2 * count ≤ length list.now) × (listed (records count list.now) < 65536) }
-        ensures { result ≡ figures_of (records count list.now) }
+    // The figures of the records.
+    pub fn of(records: &[Record]) -> Figures
+        requires { listed (intervals records.now) < 65536 }
+        ensures { result ≡ figures_of (intervals records.now) }
     {
         let mut listed = 0;
         let mut largest = 0;
-        for i in 0..count {
-            let record = records::at(list, i);
-            let size = record.size;
+        for record in records {
+            let size = interval(record).size;
             listed += size;
             if largest < size {
                 largest = size;

@@ -1,10 +1,34 @@
 // Records of the list: two words each, start and size.
 ghost use Rattle.std.specs.Prelude.{◌≡◌, ◌+◌, ◌*◌, ◌≤◌, ◌<◌, length};
 ghost use Rattle.layout.specs.Limits.{list_words};
-ghost use Rattle.freelist.specs.Records.{record_at, valid_list};
+ghost use Rattle.freelist.specs.Records.{record_at, interval_of, intervals, records, valid_list};
 
 use layout::Interval;
 use words::wide;
+
+// A record as it stands in the list: start and size.
+pub type Record = [u32; 2];
+
+// The records below the count.
+pub fn below(list: &[u32], count: usize) -> &[Record]
+    requires { 2 * count ≤ length list.now }
+    ensures { intervals result.now ≡ records count list.now }
+{
+    let (pairs, _) = list.as_chunks::<2>();
+    &pairs[..count]
+}
+
+// The interval of a record.
+pub fn interval(record: &Record) -> Interval
+    ensures value { result ≡ interval_of record.now }
+    ensures small { (result.start < 4294967296) × (result.size < 4294967296) }
+{
+    let [start, size] = *record;
+    Interval {
+        start: wide(start),
+        size: wide(size),
+    }
+}
 
 // The interval in record j.
 pub fn at(list: &[u32], j: usize) -> Interval
@@ -27,8 +51,8 @@ pub fn are_valid(list: &[u32], count: usize, words: usize, keep: usize) -> bool
         return false;
     }
     let mut end = 0;
-    for i in 0..count {
-        let record = at(list, i);
+    for record in below(list, count) {
+        let record = interval(record);
         let start = record.start;
         let size = record.size;
         let next = start + size;
