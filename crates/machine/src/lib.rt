@@ -26,6 +26,18 @@ pub struct Progress {
     pub peak: usize,
 }
 
+// The machine in lent words: what it reads, what it writes, and how far it has come.
+#[derive(Drop)]
+pub(crate) struct Machine<'a> {
+    heap: &'a [u32],
+    keep: usize,
+    roots: &'a [u32],
+    map: &'a mut [u32],
+    stack: &'a mut [u32],
+    list: &'a mut [u32],
+    progress: Progress,
+}
+
 // What is wrong with a reference, and which reference it is.
 #[derive(Clone, Copy)]
 pub struct Fault {

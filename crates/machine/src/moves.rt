@@ -1,50 +1,41 @@
 // One move, and the loop that makes them all.
 ghost use Rattle.machine.specs.Machine.{Ready, Moved, Begun, Ran};
 
-use crate::{Fault, Progress, references};
+use crate::{Fault, Machine, Progress};
 use words::{Header, wide};
 
-// One move: meets the next reference of the object in hand, or pops an object, or meets the next root. Nothing if none is left.
-fn advance(
-    heap: &[u32],
-    keep: usize,
-    roots: &[u32],
-    map: &mut [u32],
-    stack: &mut [u32],
-    list: &mut [u32],
-    p: Progress,
-) -> Result<Option<Progress>, Fault>
-    requires { Ready heap.now keep roots.now map.old stack.old list.old p }
-    ensures { Moved heap.now keep roots.now map.old stack.old p map.new stack.new list.new result }
-{
-    let next = p.next;
-    let at = p.at;
-    let left = p.left;
-    let depth = p.depth;
-    let mut q = p;
-    if 0 < left {
-        q.at = at + 1;
-        q.left = left - 1;
-        q.references += 1;
-        let q = references::meet(heap, keep, map, stack, list, q, wide(heap[at]))?;
-        return Ok(Some(q));
+impl Machine<'_> {
+    // One move: meets the next reference of the object in hand, or pops an object, or meets the next root. False if none is left.
+    fn advance(&mut self) -> Result<bool, Fault>
+        requires { Ready self.old }
+        ensures { Moved self.old self.new result }
+    {
+        if 0 < self.progress.left {
+            let r = wide(self.heap[self.progress.at]);
+            self.progress.at += 1;
+            self.progress.left -= 1;
+            self.progress.references += 1;
+            self.meet(r)?;
+            return Ok(true);
+        }
+        if 0 < self.progress.depth {
+            let top = self.progress.depth - 1;
+            let a = wide(self.stack[top]);
+            let header = Header::at(self.heap, a);
+            self.progress.depth = top;
+            self.progress.at = a + 1;
+            self.progress.left = header.refs;
+            return Ok(true);
+        }
+        if self.progress.next < self.roots.len() {
+            let r = wide(self.roots[self.progress.next]);
+            self.progress.next += 1;
+            self.progress.references += 1;
+            self.meet(r)?;
+            return Ok(true);
+        }
+        Ok(false)
     }
-    if 0 < depth {
-        let a = wide(stack[depth - 1]);
-        let header = Header::at(heap, a);
-        let refs = header.refs;
-        q.at = a + 1;
-        q.left = refs;
-        q.depth = depth - 1;
-        return Ok(Some(q));
-    }
-    if next < roots.len() {
-        q.next = next + 1;
-        q.references += 1;
-        let q = references::meet(heap, keep, map, stack, list, q, wide(roots[next]))?;
-        return Ok(Some(q));
-    }
-    Ok(None)
 }
 
 // Runs the machine to its end, from a clear map and the first list with its count.
@@ -60,19 +51,25 @@ pub fn run(
     requires { Begun heap.now keep roots.now map.old stack.old list.old count }
     ensures { Ran heap.now keep roots.now map.new stack.new list.new result }
 {
-    let mut p = Progress {
-        next: 0,
-        at: 0,
-        left: 0,
-        depth: 0,
-        count,
-        objects: 0,
-        live: 0,
-        references: 0,
-        peak: count,
+    let mut machine = Machine {
+        heap,
+        keep,
+        roots,
+        map,
+        stack,
+        list,
+        progress: Progress {
+            next: 0,
+            at: 0,
+            left: 0,
+            depth: 0,
+            count,
+            objects: 0,
+            live: 0,
+            references: 0,
+            peak: count,
+        },
     };
-    while let Some(q) = advance(heap, keep, roots, map, stack, list, p)? {
-        p = q;
-    }
-    Ok(p)
+    while machine.advance()? {}
+    Ok(machine.progress)
 }

@@ -1,74 +1,80 @@
 // Meeting one reference.
-ghost use Rattle.std.specs.Prelude.{◌≡◌, set};
-ghost use Rattle.words.specs.Map.{set_bit};
-ghost use Rattle.machine.specs.Machine.{Noting, noted, Meeting, Met};
+ghost use Rattle.std.specs.Prelude.{◌≡◌, ◌+◌, ◌*◌, ◌/◌, ◌≤◌, ◌<◌, length};
+ghost use Rattle.words.specs.Map.{bit_at};
+ghost use Rattle.freelist.specs.Search.{holder, Sorted};
+ghost use Rattle.machine.specs.Machine.{listed, Noting, pushed, Meeting, Met};
 
-use crate::{Fault, Progress};
+use crate::{Fault, Machine};
 use freelist::search;
 use layout::Refusal;
 use words::{Header, bits};
 
-// The object of s words at r is marked and pushed; n intervals are listed now.
-fn note(map: &mut [u32], stack: &mut [u32], p: Progress, r: usize, s: usize, n: usize) -> Progress
-    requires { Noting map.old stack.old p r s }
-    ensures value { result ≡ noted p s n }
-    ensures map_after { map.new ≡ set_bit map.old r }
-    ensures stack_after { stack.new ≡ set stack.old p.depth r }
-{
-    let depth = p.depth;
-    let mut q = p;
-    bits::set(map, r);
-    stack[depth] = r as u32;
-    q.depth = depth + 1;
-    q.count = n;
-    q.objects += 1;
-    q.live += s;
-    if q.peak < n {
-        q.peak = n;
+impl Machine<'_> {
+    // Whether the object at r is marked.
+    fn is_marked(&self, r: usize) -> bool
+        requires { r / 32 < length self.now.map.now }
+        ensures { result ≡ bit_at self.now.map.now r }
+    {
+        bits::is_set(self.map, r)
     }
-    q
-}
 
-// Meets the reference r. An object that no listed interval holds overlaps a marked one.
-pub(crate) fn meet(
-    heap: &[u32],
-    keep: usize,
-    map: &mut [u32],
-    stack: &mut [u32],
-    list: &mut [u32],
-    p: Progress,
-    r: usize,
-) -> Result<Progress, Fault>
-    requires { Meeting heap.now keep map.old stack.old list.old p }
-    ensures { Met heap.now keep map.old stack.old p r map.new stack.new list.new result }
-{
-    if r == 0 {
-        return Ok(p);
+    // The number of the listed interval that holds the s words at r.
+    fn holding(&self, r: usize, s: usize) -> Option<usize>
+        requires { (2 * self.now.progress.count ≤ length self.now.list.now) × (r + s < 4294967296) × Sorted (listed self.now) }
+        ensures { result ≡ holder r s (listed self.now) }
+    {
+        search::holding(self.list, self.progress.count, r, s)
     }
-    if heap.len() <= r {
-        return Err(Fault {
-            refusal: Refusal::Address,
-            place: r,
-        });
+
+    // The object of s words at r is marked and pushed; n intervals are listed now.
+    fn note(&mut self, r: usize, s: usize, n: usize)
+        requires { Noting self.old r s }
+        ensures { self.new ≡ pushed self.old r s n }
+    {
+        bits::set(self.map, r);
+        self.stack[self.progress.depth] = r as u32;
+        self.progress.depth += 1;
+        self.progress.count = n;
+        self.progress.objects += 1;
+        self.progress.live += s;
+        if self.progress.peak < n {
+            self.progress.peak = n;
+        }
     }
-    if bits::is_set(map, r) {
-        return Ok(p);
+
+    // Meets the reference r. An object that no listed interval holds overlaps a marked one.
+    pub(crate) fn meet(&mut self, r: usize) -> Result<(), Fault>
+        requires { Meeting self.old }
+        ensures { Met self.old r self.new result }
+    {
+        if r == 0 {
+            return Ok(());
+        }
+        if self.heap.len() <= r {
+            return Err(Fault {
+                refusal: Refusal::Address,
+                place: r,
+            });
+        }
+        if self.is_marked(r) {
+            return Ok(());
+        }
+        if !Header::is_formed(self.heap, self.keep, r) {
+            return Err(Fault {
+                refusal: Refusal::Header,
+                place: r,
+            });
+        }
+        let header = Header::at(self.heap, r);
+        let s = header.size;
+        let Some(j) = self.holding(r, s) else {
+            return Err(Fault {
+                refusal: Refusal::Overlap,
+                place: r,
+            });
+        };
+        let n = split::take_off(self.list, self.progress.count, self.keep, r, s, j);
+        self.note(r, s, n);
+        Ok(())
     }
-    if !Header::is_formed(heap, keep, r) {
-        return Err(Fault {
-            refusal: Refusal::Header,
-            place: r,
-        });
-    }
-    let count = p.count;
-    let header = Header::at(heap, r);
-    let s = header.size;
-    let Some(j) = search::holding(list, count, r, s) else {
-        return Err(Fault {
-            refusal: Refusal::Overlap,
-            place: r,
-        });
-    };
-    let n = split::take_off(list, count, keep, r, s, j);
-    Ok(note(map, stack, p, r, s, n))
 }

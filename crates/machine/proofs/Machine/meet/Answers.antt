@@ -1,30 +1,30 @@
--- `meet`: each way out is one of the reasons that the machine has.
+-- `Machine::meet`: each way out is one of the reasons that the machine has.
 use mathlib.Core.Path.{ap}
 use Rattle.machine.specs.MetLaws.{Candidate, met_empty, met_outside, here, met_again, met_ill, candidate, searchable, met_over, takeable, noting, met_new}
 use Rattle.words.specs.declared.header.Header.{Header}
-use Rattle.machine.proofs.references.meet.Goals as goal
-use Rattle.machine.proofs.references.meet.Goals.{After-at-header}
+use Rattle.machine.proofs.Machine.meet.Goals as goal
+use Rattle.machine.proofs.Machine.meet.Goals.{After-at-header}
 
 -- The reference is a candidate.
-known : (c : After-at-header) → let t = c.args in Candidate t.heap.now t.keep t.map.now t.r c.at-header.result.size
+known : (c : After-at-header) → Candidate c.args.self.now c.args.r c.at-header.result.size
 known c =
-    candidate c.requires c.if-r-eq0.false c.if-heap-r.false c.is_set.ensures c.if-is_set.false c.is_formed.ensures c.if-not-is_formed.false
+    candidate c.requires c.if-r-eq0.false c.if-self-r.false c.is_marked.ensures c.if-is_marked.false c.is_formed.ensures c.if-not-is_formed.false
     (ap (λ (x : Header). x.size) c.at-header.ensures)
 
 pub returns-then-r-eq0 : goal.returns-then-r-eq0
 returns-then-r-eq0 c = met_empty c.requires c.if-r-eq0.true
 
-pub returns-then-heap-r : goal.returns-then-heap-r
-returns-then-heap-r c = met_outside c.requires c.if-r-eq0.false c.if-heap-r.true
+pub returns-then-self-r : goal.returns-then-self-r
+returns-then-self-r c = met_outside c.requires c.if-r-eq0.false c.if-self-r.true
 
-pub is_set-requires : goal.is_set-requires
-is_set-requires c = here c.requires c.if-r-eq0.false c.if-heap-r.false
+pub is_marked-requires : goal.is_marked-requires
+is_marked-requires c = here c.requires c.if-r-eq0.false c.if-self-r.false
 
-pub returns-then-is_set : goal.returns-then-is_set
-returns-then-is_set c = met_again c.requires c.if-r-eq0.false c.if-heap-r.false c.is_set.ensures c.if-is_set.true
+pub returns-then-is_marked : goal.returns-then-is_marked
+returns-then-is_marked c = met_again c.requires c.if-r-eq0.false c.if-self-r.false c.is_marked.ensures c.if-is_marked.true
 
 pub returns-then-not-is_formed : goal.returns-then-not-is_formed
-returns-then-not-is_formed c = met_ill c.requires c.if-r-eq0.false c.if-heap-r.false c.is_set.ensures c.if-is_set.false c.is_formed.ensures c.if-not-is_formed.true
+returns-then-not-is_formed c = met_ill c.requires c.if-r-eq0.false c.if-self-r.false c.is_marked.ensures c.if-is_marked.false c.is_formed.ensures c.if-not-is_formed.true
 
 pub holding-requires : goal.holding-requires
 holding-requires c = searchable c.requires (known c)
@@ -44,5 +44,4 @@ note-requires c = noting c.requires (known (goal.at.note-requires c).After-at-he
 pub returns : goal.returns
 returns c =
     let off = c.take_off-n.ensures in
-    let e = c.note.ensures in
-    met_new c.requires (known (goal.at.returns c).After-at-header) c.holding.ensures c.in-Some.is off.value off.list_after e.value e.map_after e.stack_after
+    met_new c.requires (known (goal.at.returns c).After-at-header) c.holding.ensures c.in-Some.is off.value off.list_after c.note.ensures
