@@ -110,11 +110,11 @@ impl Trial {
         }
         match ask {
             Ask::Figures => {
-                let figures = Figures::of(list, count);
+                let figures = Figures::of(records::below(list, count));
                 lines::gave(out, &[1, figures.listed, figures.largest, figures.fragment])
             }
             Ask::Front => {
-                let Some(j) = search::fitting(list, count, s) else {
+                let Some(j) = search::fitting(records::below(list, count), s) else {
                     return lines::gave(out, &[1, count]);
                 };
                 let left = split::take_front(list, count, keep, s, j);
@@ -122,7 +122,7 @@ impl Trial {
             }
             Ask::Off | Ask::Comb if s == 0 || words < s || words < a => Ok(()),
             Ask::Off | Ask::Comb => {
-                let Some(j) = search::holding(list, count, a, s) else {
+                let Some(j) = search::holding(records::below(list, count), a, s) else {
                     return lines::gave(out, &[1, count]);
                 };
                 let left = split::take_off(list, count, keep, a, s, j);

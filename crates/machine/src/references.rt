@@ -5,7 +5,7 @@ ghost use Rattle.freelist.specs.Search.{holder, Sorted};
 ghost use Rattle.machine.specs.Machine.{listed, Noting, pushed, Meeting, Met};
 
 use crate::{Fault, Machine};
-use freelist::search;
+use freelist::{records, search};
 use layout::Refusal;
 use words::{Header, bits};
 
@@ -23,7 +23,7 @@ impl Machine<'_> {
         requires { (2 * self.now.progress.count ≤ length self.now.list.now) × (r + s < 4294967296) × Sorted (listed self.now) }
         ensures { result ≡ holder r s (listed self.now) }
     {
-        search::holding(self.list, self.progress.count, r, s)
+        search::holding(records::below(self.list, self.progress.count), r, s)
     }
 
     // The object of s words at r is marked and pushed; n intervals are listed now.

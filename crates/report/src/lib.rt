@@ -3,8 +3,8 @@
 
 mod put;
 
-ghost use Rattle.std.specs.Prelude.{◌≡◌, ◌*◌, ◌≤◌, length};
-ghost use Rattle.freelist.specs.Records.{records};
+ghost use Rattle.std.specs.Prelude.{◌≡◌};
+ghost use Rattle.freelist.specs.Records.{intervals};
 ghost use Rattle.collector.specs.Collect.{collect_told};
 ghost use Rattle.report.specs.Answer.{code_lines, count_lines, lines_after, image_lines, answer, output, reports};
 ghost use Rattle.report.specs.Printed.{free_lines};
@@ -12,6 +12,7 @@ ghost use Rattle.report.specs.Written.{Writes};
 
 use crate::put::Writer;
 use collector::{Collection, Refused};
+use freelist::records::Record;
 use freelist::{Figures, records};
 use layout::{Refusal, State};
 
@@ -71,7 +72,7 @@ fn found_lines(to: &mut Writer<'_>, found: Collection, list: &[u32])
     match store::survey(found.state, list) {
         Ok(figures) => {
             count_lines(to, found, figures);
-            free_lines(to, list, found.state.count);
+            free_lines(to, records::below(list, found.state.count));
         }
         Err(refusal) => code_lines(to, refusal.number(), 0),
     }
@@ -99,12 +100,11 @@ fn count_lines(to: &mut Writer<'_>, found: Collection, figures: Figures)
     to.said(b"fragment=", figures.fragment);
 }
 
-// Prints a line for each interval of the list. They go by number: an interval is two words, which `records::at` reads.
-fn free_lines(to: &mut Writer<'_>, list: &[u32], count: usize)
-    requires { 2 * count ≤ length list.now }
-    ensures { Writes to.old (free_lines (records count list.now)) to.new }
+// Prints a line for each interval of the list.
+fn free_lines(to: &mut Writer<'_>, listed: &[Record])
+    ensures { Writes to.old (free_lines (intervals listed.now)) to.new }
 {
-    for j in 0..count {
-        to.free(records::at(list, j));
+    for record in listed {
+        to.free(records::interval(record));
     }
 }

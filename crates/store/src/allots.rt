@@ -59,7 +59,7 @@ fn allot_in(
     let keep = state.keep;
     let count = state.count;
     asked(list, count, words, keep, s, p)?;
-    let Some(j) = search::fitting(list, count, s) else {
+    let Some(j) = search::fitting(records::below(list, count), s) else {
         return Err(Refusal::Full);
     };
     let record = records::at(list, j);

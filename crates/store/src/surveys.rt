@@ -21,5 +21,5 @@ pub fn survey(state: State, list: &[u32]) -> Result<Figures, Refusal>
     if !records::are_valid(part, count, words, keep) {
         return Err(Refusal::List);
     }
-    Ok(Figures::of(part, count))
+    Ok(Figures::of(records::below(part, count)))
 }

@@ -13,7 +13,7 @@ is-ready c = ready c.requires c.args.s c.args.p c.in_ok-asked.ensures refl
 
 -- An interval was chosen.
 is-chosen : (c : In-Some) → let t = c.args in Chosen t.state t.heap.now t.map.now t.list.now t.s t.p c.in-Some.j
-is-chosen c = chosen c.requires c.args.s c.args.p c.in_ok-asked.ensures refl c.fitting.ensures c.in-Some.is
+is-chosen c = chosen c.requires c.args.s c.args.p c.in_ok-asked.ensures refl (rw c.below.ensures at c.fitting.ensures) c.in-Some.is
 
 pub returns-in_err-asked : goal.returns-in_err-asked
 returns-in_err-asked c =
@@ -21,11 +21,11 @@ returns-in_err-asked c =
     let told : allotted c.args.state c.from_residual.result ≡ allot_refused (number refusal) c.args.state = search rules in
     rw told (allot_refused_lem c.requires c.args.s c.args.p c.in_err-asked.ensures (λ none. omega (arith, number_some refusal)))
 
-pub fitting-requires : goal.fitting-requires
-fitting-requires c = (is-ready c).room
+pub below-requires : goal.below-requires
+below-requires c = (is-ready c).room
 
 pub returns-in_default : goal.returns-in_default
-returns-in_default c = allot_full c.requires c.args.s c.args.p c.in_ok-asked.ensures refl c.fitting.ensures c.in_default.is
+returns-in_default c = allot_full c.requires c.args.s c.args.p c.in_ok-asked.ensures refl (rw c.below.ensures at c.fitting.ensures) c.in_default.is
 
 pub at-record-requires : goal.at-record-requires
 at-record-requires c = record_asks (is-chosen (goal.at.at-record-requires c).In-Some)

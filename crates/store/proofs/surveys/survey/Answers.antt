@@ -1,10 +1,13 @@
 -- `survey`: each way out is a law of `surveys`.
-use Rattle.std.proofs.Common.{rules, ◌≡◌, sym, ◌∙◌, refl}
+use Rattle.std.proofs.Common.{rules, ◌*◌, ◌≤◌, ◌<◌, length, take, ◌≡◌, sym, ◌∙◌, refl}
 use lib.Seq.{length-take-le}
 use Rattle.layout.specs.LimitsLaws.{needed_ok, needed_err, rooms_out}
 use Rattle.store.specs.Survey.{survey_told, survey_refused}
 use Rattle.store.proofs.SurveyLaws.{survey_limits, survey_short, survey_part, survey_list, survey_asks, survey_figures}
+use Rattle.runs.specs.Lists.{listed}
+use Rattle.freelist.specs.Records.{records}
 use Rattle.store.proofs.surveys.survey.Goals as goal
+use Rattle.store.proofs.surveys.survey.Goals.{Else-not-are_valid}
 
 pub returns-in_err-rooms : goal.returns-in_err-rooms
 returns-in_err-rooms c =
@@ -34,14 +37,21 @@ returns-then-not-are_valid c =
     let k = needed_ok _ _ c.in_ok-rooms.ensures in
     survey_list t.state t.list.now k.0 k.1 c.if-list-n.false c.are_valid.ensures c.if-not-are_valid.true
 
-pub of-requires : goal.of-requires
-of-requires c =
+-- The figures can be had.
+asks : (c : Else-not-are_valid) → let t = c.args in let part = take c.in_ok-rooms.rooms.list t.list.now in (2 * t.state.count ≤ length part) × (listed (records t.state.count part) < 65536)
+asks c =
     let t = c.args in
     let k = needed_ok _ _ c.in_ok-rooms.ensures in
     survey_asks t.state t.list.now k.0 k.1 c.if-list-n.false c.are_valid.ensures c.if-not-are_valid.false
+
+pub below-requires : goal.below-requires
+below-requires c = (asks c).0
+
+pub of-requires : goal.of-requires
+of-requires c = rw c.below.ensures (asks (goal.at.of-requires c).Else-not-are_valid).1
 
 pub returns : goal.returns
 returns c =
     let t = c.args in
     let k = needed_ok _ _ c.in_ok-rooms.ensures in
-    survey_figures t.state t.list.now k.0 k.1 c.if-list-n.false c.are_valid.ensures c.if-not-are_valid.false c.of.ensures
+    survey_figures t.state t.list.now k.0 k.1 c.if-list-n.false c.are_valid.ensures c.if-not-are_valid.false (rw c.below.ensures at c.of.ensures)
