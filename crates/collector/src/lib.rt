@@ -38,7 +38,7 @@ impl Refused {
 }
 
 // Marks from the roots in the fixed order, and leaves map and list with a clear stack, or refuses. The old content of all three is
-// not looked at.
+// not looked at. What is lent comes buffer by buffer, as C lends it.
 pub fn collect(
     state: State,
     heap: &[u32],

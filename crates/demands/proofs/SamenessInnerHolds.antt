@@ -15,6 +15,7 @@ use Rattle.layout.proofs.refusal.Refusal.number as number
 use Rattle.layout.proofs.Rooms.needed as needed
 use Rattle.layout.proofs.State.rooms as fitted
 use Rattle.freelist.proofs.records.at as record_at
+use Rattle.freelist.proofs.records.interval as interval
 use Rattle.freelist.proofs.records.are_valid as are_valid
 use Rattle.freelist.proofs.search.fitting as fitting
 use Rattle.freelist.proofs.search.holding as holding
@@ -84,6 +85,10 @@ fitted_same κs a x y p q i = (agree p q i, x.1)
 -- The contract of `records::at` allows one interval.
 pub record_at_same : Same (ended_of _ record_at.Kinds.ps record_at.Kinds.r) record_at.Reads.Learnt
 record_at_same κs a x y p q i = (agree p.0 q.0 i, x.1)
+
+-- That of `records::interval` allows one interval.
+pub interval_same : Same (ended_of _ interval.Kinds.ps interval.Kinds.r) interval.Reads.Learnt
+interval_same κs a x y p q i = (agree p.0 q.0 i, x.1)
 
 -- That of `records::are_valid` allows one answer.
 pub are_valid_same : Same (ended_of _ are_valid.Kinds.ps are_valid.Kinds.r) are_valid.Reads.Learnt

@@ -1,4 +1,5 @@
 // The calls for C. A state and an answer are lent as words; with too few of them a call answers 2 and changes nothing.
+// Each answers a number, and each buffer is a parameter of its own, since that is what C has.
 ghost use Rattle.std.specs.Prelude.{◌≡◌};
 ghost use Rattle.store.specs.Fields.{written};
 ghost use Rattle.firmware.specs.Calls.{setting_up, hx_sets_up, collecting, hx_collects, allotting, hx_allots, telling, hx_reads, hx_writes, hx_surveys};

@@ -12,7 +12,8 @@ ghost use Rattle.layout.specs.Limits.{within, rooms_of};
 pub use calls::{hx_allot, hx_collect, hx_read, hx_set_up, hx_survey, hx_write};
 use layout::Rooms;
 
-// The words of map that a heap needs; 0 only where words or keep is out of the limits.
+// The words of map that a heap needs; 0 only where words or keep is out of the limits. (Each figure has its function, since C calls
+// them.)
 pub fn hx_map_words(words: u32, keep: u32) -> u32
     ensures value { result ≡ (rooms_of words keep).map }
     ensures zero_outside { result ≡ 0 → within words keep ≡ false }

@@ -1,4 +1,5 @@
-// What C calls, each function that of the crate firmware. A slice passes as a pointer and a length.
+// What C calls, each function that of the crate firmware, which is a library for the theorems: a static library cannot be one. A
+// slice passes as a pointer and a length.
 #![tactic(auto)]
 
 ghost use Rattle.std.specs.Prelude.{◌≡◌, false};

@@ -4,7 +4,7 @@
 use report::ANSWER_ROOM;
 use std::io::Write;
 
-// A text has at most 60,000 bytes, so one more is enough to know that it is too long.
+// A text has at most 60,000 bytes, so one more is enough to know that it is too long. There is no heap, so the buffers are fixed.
 fn main(rt: HostRuntime) {
     let mut text = [0u8; 60001];
     let Ok(n) = lines::read_full(&mut rt.stdin(), &mut text) else {

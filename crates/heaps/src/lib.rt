@@ -77,7 +77,7 @@ impl From<u8> for Kind {
     }
 }
 
-// Lays the heap and the root list of a line.
+// Lays the heap and the root list of a line. Letter and numbers come as a line has them, or as `trials` has made them up.
 pub fn lay(kind: u8, place: [usize; 48], heap: &mut [u32], roots: &mut [u32]) {
     match Kind::from(kind) {
         Kind::Given => given(&place[9..], heap, roots),

@@ -154,7 +154,7 @@ impl<'a> Player<'a> {
         }
     }
 
-    // So many turns, by the numbers from a seed on, one in so many of loss.
+    // So many turns, counted and not indexed, by the numbers from a seed on, one in so many of loss.
     pub(crate) fn play(&mut self, turns: usize, seed: usize, seldom: usize) {
         let mut row = seed;
         for _ in 0..turns {

@@ -7,7 +7,7 @@ use crate::scan;
 // The most bytes of a line, without the LF that ends it.
 const MAX_LINE: usize = 32;
 
-// Where the line at the front of a text ends; at 0 where no LF ends it in time.
+// Where the line at the front of a text ends; at 0 where no LF ends it in time. (No `Option`: such a line is an empty one.)
 fn line_end(text: &[u8]) -> usize
     ensures { (result ≤ length text.now) × (result ≡ length (first_line text.now)) }
 {

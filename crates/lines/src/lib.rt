@@ -8,7 +8,8 @@ use std::io;
 use std::io::{Read, Write};
 use words::wide;
 
-// A line: its first byte, or LF if it has none; the number in each place, where places are parted by a space; where it ends.
+// A line: its first byte, or LF if it has none; the number in each place, where places are parted by a space; where it ends. What
+// the number in a place is, each program names for itself.
 #[derive(Clone, Copy)]
 pub struct Line {
     pub kind: u8,
@@ -127,7 +128,7 @@ pub fn sum_on(sum: usize, came: &[usize]) -> usize {
     came.iter().copied().fold(sum, one_more)
 }
 
-// A sum over the words of a list.
+// A sum over the words of a list: the same fold over words, which are no `Into<usize>`.
 pub fn sum(list: &[u32]) -> usize {
     list.iter().copied().map(wide).fold(0, one_more)
 }

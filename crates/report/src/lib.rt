@@ -19,7 +19,8 @@ use layout::{Refusal, State};
 // How many bytes to lend for an answer.
 pub const ANSWER_ROOM: usize = 65536;
 
-// The answer to a text, at the front of the output buffer, and its length; 0 and no byte where the buffer is too short.
+// The answer to a text, at the front of the output buffer, and its length; 0 and no byte where the buffer is too short. (No
+// `Result`: `reports` promises just these lengths.)
 pub fn answer(text: &[u8], out: &mut [u8]) -> usize
     ensures { output result out.new ≡ reports text.now out.old }
 {
@@ -43,7 +44,7 @@ fn text_lines(to: &mut Writer<'_>, text: &[u8])
     }
 }
 
-// Sets up, collects, and prints what was found.
+// Sets up, collects, and prints what was found. The buffers are fixed ones, since the text program has no heap.
 fn image_lines(to: &mut Writer<'_>, heap: &[u32], keep: usize, roots: &[u32])
     ensures { Writes to.old (image_lines heap.now keep roots.now) to.new }
 {

@@ -40,7 +40,7 @@ impl<'a> Writer<'a> {
         }
     }
 
-    // The decimals of a number.
+    // The decimals of a number. (Not by `Display`, whose writer fails where a buffer ends; this one is cut there, byte by byte.)
     fn decimals(&mut self, n: usize)
         ensures { Writes self.old (decimals n) self.new }
     {

@@ -1,4 +1,5 @@
-// Words taken off the free list, in the words lent for it.
+// Words taken off the free list, in the words lent for it. The whole list is lent with its count, and no slice of its records, since a
+// list may grow by one.
 #![tactic(auto)]
 
 mod moves;

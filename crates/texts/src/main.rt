@@ -5,6 +5,7 @@ mod cases;
 
 use std::io;
 
+// Not by `lines::run`: there are texts between the lines.
 fn main(rt: HostRuntime) -> io::Result<()> {
     let mut input = vec![in rt.alloc(); 0u8; 524288]?;
     let n = lines::read_full(&mut rt.stdin(), &mut input)?;

@@ -6,7 +6,7 @@ use collector::{Collection, Refused};
 use layout::State;
 use std::alloc::{AllocError, Global};
 
-// The numbers of an answer, the state's among them.
+// The numbers of an answer, the state's among them, for the mark-sweep's are compared with them one by one.
 #[derive(Clone, Copy, Default)]
 pub(crate) struct Answer {
     pub(crate) code: usize,

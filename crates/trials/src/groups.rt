@@ -87,6 +87,7 @@ pub(crate) fn run<W: Write>(
 ) -> io::Result<()> {
     let of = Group::from(*group);
     let mut book = Book::default();
+    // the number of an image is printed with what differs in it
     for i in 0..500 {
         let image = Image::draw(row, &of);
         let trial = Trial::run(alloc, &image, None)?;

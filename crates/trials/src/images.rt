@@ -22,7 +22,7 @@ pub(crate) struct Image {
     seed: usize,
 }
 
-// Passes over so many numbers of the row.
+// Passes over so many numbers of the row: a count, with nothing to index.
 fn skip(row: &mut usize, n: usize) {
     for _ in 0..n {
         draw(row);

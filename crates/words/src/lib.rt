@@ -8,7 +8,7 @@ ghost use Rattle.std.specs.Prelude.{◌≡◌, ◌<◌};
 
 pub use header::Header;
 
-// A word as a number.
+// A word as a number. (The library has no `From` for the two types.)
 pub fn wide(word: u32) -> usize
     ensures { (result ≡ word) × (result < 4294967296) }
 {
