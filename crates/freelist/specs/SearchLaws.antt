@@ -11,8 +11,8 @@ use Rattle.layout.specs.declared.Interval.{Interval}
 use Rattle.runs.specs.Lists.{interval_at, end, In, Holds, Ordered}
 use Rattle.runs.proofs.LongestLaws.{clash}
 use Rattle.runs.proofs.OrderLaws.{ordered_apart}
-use Rattle.freelist.specs.Records.{intervals}
-use Rattle.freelist.specs.RecordsLaws.{length-intervals, interval_pair, interval_next}
+use Rattle.freelist.specs.Records.{record_at, records, intervals}
+use Rattle.freelist.specs.RecordsLaws.{length-records, record_at_lem, length-intervals, interval_pair, interval_next}
 use Rattle.freelist.specs.Search.{first_from, fits, fitting, contains, holder, Sorted}
 
 -- An ordered list is sorted.
@@ -165,6 +165,14 @@ holder_left a s l lo hi sorted inside near low high = go (contains a s (interval
               | yes here ↦ subst (λ (t : ℕ). contains a s (interval_at l t) ≡ false) (sym here) e
               | no other ↦ elim (dec_le m lo) [ yes h ↦ before m (omega arith) | no h ↦ behind m (omega arith) o ]
             ]
+
+-- The same of records, with what the test of that record gave.
+pub holding_left : (a s n : ℕ) (list : List ℕ) (lo hi : ℕ) {r : Interval} {t : Bool} → r ≡ record_at list lo → Sorted (records n list) → lo < n → hi ≤ suc lo → (0 < lo → (record_at list lo).start ≤ a) → (hi < n → a < (record_at list hi).start)
+    → contains a s r ≡ t → holder a s (records n list) ≡ cond t (Some lo) None
+holding_left a s n list lo hi e sorted inside near low high test =
+    let same : length (records n list) ≡ n = length-records n list in
+    let here : interval_at (records n list) lo ≡ record_at list lo = record_at_lem n list lo inside in
+    rw (← test, e ∙ sym here) (holder_left a s (records n list) lo hi sorted (omega arith) near (λ x. rw here (low x)) (λ x. rw (record_at_lem n list hi (omega arith)) (high (omega arith))))
 
 -- Where the first interval starts behind a, none holds the words.
 pub holding_none : (a s : ℕ) (l : List Interval) → Sorted l → (0 < length l → a < (interval_at l 0).start) → holder a s l ≡ None
