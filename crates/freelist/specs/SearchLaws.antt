@@ -1,7 +1,7 @@
 -- Laws of the searches.
 use Prim.Native.Nat.{ℕ, zero, suc, ◌+◌, ◌≤◌, ◌<◌}
 use Rattle.std.specs.Prelude.{◌≡◌, refl, Bool, true, false, cond, List, [], ◌∷◌, length, get_or, drop, leb, Option, Some, None}
-use Rattle.std.proofs.Common.{sym, ap, subst, drop_of_length-le}
+use Rattle.std.proofs.Common.{◌∙◌, sym, ap, subst, drop_of_length-le}
 use Rattle.std.specs.List.Sorted.{IsPartitionedBy, IsPartitionPoint}
 use Rattle.std.proofs.Math.Bool.{and-eq-true_iff, and-false}
 use native.Mathlib.Omega.{arith}
