@@ -22,6 +22,7 @@ use Rattle.freelist.proofs.search.holding as holding
 use Rattle.freelist.proofs.figures.Figures.of as figures
 use Rattle.split.proofs.take_off as take_off
 use Rattle.split.proofs.take_front as take_front
+use Rattle.image.proofs.reading.WrongText.line as line
 use Rattle.demands.specs.Sameness.{Same}
 
 -- Two things equal to a third are equal.
@@ -115,3 +116,9 @@ take_off_same κs a x y p q i = (agree p.0 q.0 i, (agree p.1 q.1 i, x.1.1))
 -- That of `take_front` allows one count and one list.
 pub take_front_same : Same (ended_of _ take_front.Kinds.ps take_front.Kinds.r) take_front.Reads.Learnt
 take_front_same κs a x y p q i = (agree p.0 q.0 i, (agree p.1 q.1 i, x.1.1))
+
+-- The function of `image`.
+
+-- The contract of `WrongText::line` allows one number.
+pub line_same : Same (ended_of _ line.Kinds.ps line.Kinds.r) line.Reads.Learnt
+line_same κs a x y p q i = (agree p q i, x.1)
