@@ -33,10 +33,10 @@ numbered (q ∷ qs) (Memᴰ.tail m) = numbered qs m
 
 -- An outcome is told of an answer, if that of a success is, and that of each refusal.
 module _ {A B R : Type 0} (tell : R → B) (part : A → B) (code : A → ℕ) (refuse : ℕ → A) (outcome : A) where
-  abbrev Told : Type 0
-  Told = (r : R) × (tell r ≡ part outcome)
+  abbrev IsAnswer : Type 0
+  IsAnswer = (r : R) × (tell r ≡ part outcome)
 
-  told : (qs : List Refusal) → (code outcome ≡ 0 → Told) → ((q : Refusal) → (r : R) × (tell r ≡ part (refuse (number q)))) → Refuses code refuse (map number qs) outcome → Told
+  told : (qs : List Refusal) → (code outcome ≡ 0 → IsAnswer) → ((q : Refusal) → (r : R) × (tell r ≡ part (refuse (number q)))) → Refuses code refuse (map number qs) outcome → IsAnswer
   told qs done refused ends = elim (ℕ_discrete (code outcome) 0) [
     | yes z ↦ done z
     | no some ↦
@@ -90,11 +90,11 @@ survey_tells state list =
 
 -- What a collection answers is.
 module _ (state : State) (heap roots map stack list : List ℕ) where
-  abbrev Tells : Left → Type 0
-  Tells x = (r : Result Collection Refused) × (collect_told r ≡ x.answer)
+  abbrev IsCollected : Left → Type 0
+  IsCollected x = (r : Result Collection Refused) × (collect_told r ≡ x.answer)
 
   -- Where it has met all that is asked of it.
-  given : Lent state heap roots map stack list → Tells (collects state heap roots map stack list)
+  given : Lent state heap roots map stack list → IsCollected (collects state heap roots map stack list)
   given lent =
       let x : Left = collects state heap roots map stack list in
       let ends = collect_ends state heap roots map stack list in
@@ -107,10 +107,10 @@ module _ (state : State) (heap roots map stack list : List ℕ) where
       found a z w i = record { code = sym z i; place = sym w i; objects = a.objects; live = a.live; references = a.references; peak = a.peak; state = a.state }
 
   -- In every case.
-  pub collect_tells : Tells (collects state heap roots map stack list)
+  pub collect_tells : (x : Result Collection Refused) × (collect_told x ≡ (collects state heap roots map stack list).answer)
   collect_tells =
-      let early : (q : Refusal) → Tells (lent_refused state map stack list (number q)) = λ q. (Err (record { fault = record { refusal = q; place = 0 }; state = state }), refl) in
-      lent_cases state heap roots map stack list Tells (λ lent. subst Tells (lent_parts state heap roots map stack list lent) (given lent)) (λ _. early is.Limits) (λ _ _. early is.Room)
+      let early : (q : Refusal) → IsCollected (lent_refused state map stack list (number q)) = λ q. (Err (record { fault = record { refusal = q; place = 0 }; state = state }), refl) in
+      lent_cases state heap roots map stack list IsCollected (λ lent. subst IsCollected (lent_parts state heap roots map stack list lent) (given lent)) (λ _. early is.Limits) (λ _ _. early is.Room)
 
 -- No two answers of an allot are told by the same numbers.
 pub allot_one : (x y : Result NewObject allot.Refused) → allot_told x ≡ allot_told y → x ≡ y

@@ -1,8 +1,11 @@
--- Laws of decimals laid from the end of a buffer, which the code's answers cite no more, since it writes them from the front. They stand, of the same definitions.
-use Rattle.std.specs.Prelude.{ℕ, suc, ◌+◌, ◌/◌, ◌%◌, ◌≤◌, ◌<◌, ◌≡◌, length, set, drop}
+-- Laws of decimals laid from the end of a buffer, and of a right text's counts, which the code's answers cite no more: the code writes from the front, and a type has the counts. They stand, of the same definitions.
+use Rattle.std.specs.Prelude.{ℕ, suc, ◌+◌, ◌/◌, ◌%◌, ◌≤◌, ◌<◌, ◌≡◌, length, set, drop, Result, Ok}
 use Rattle.std.proofs.Math.Path.{sym}
 use Rattle.std.proofs.Common.{◌∙◌, arith, drop-cons, drop-set-lt, get_or-set_same, lt-length-set, lt-ltb, le-ltb}
 use mathlib.Core.List.{List, [], ◌∷◌, ◌++◌, append_assoc}
+use Rattle.image.specs.Image.{max_heap, max_image_roots}
+use Rattle.image.specs.declared.so_far.SoFar.{SoFar}
+use Rattle.image.specs.declared.reading.WrongText.{WrongText}
 use Rattle.report.specs.Printed.{spelled, decimals}
 
 -- A byte stored in front of what is laid stands in front of it.
@@ -20,3 +23,7 @@ module _ (n rest j : ℕ) (space : List ℕ) (inside : j < length space) (e : de
   pub spells_next : 10 ≤ rest → decimals n ≡ spelled j (rest / 10) ++ drop j (set space j (48 + rest % 10))
   unfolding spelled
   spells_next l = rw (laid space j (48 + rest % 10) inside) ((rw (le-ltb rest 10 l) at e) ∙ append_assoc (spelled j (rest / 10)) _ _)
+
+-- What a right text has come to fits in the room of the largest image.
+pub found_small : {found : Result SoFar WrongText} {b : SoFar} → found ≡ Ok b → (b.roots ≤ max_image_roots) × (b.words ≤ max_heap)
+found_small {found} {b} e = (b.roots_in, b.words_in)

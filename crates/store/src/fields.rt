@@ -33,7 +33,8 @@ pub fn write(
     Ok(())
 }
 
-// The word of field k of the object at a, or the refusal of a read or a write whatever is stored.
+// The word of field k of the object at a, or the refusal of a read or a write whatever is stored. What is lent stays apart
+// in the functions below: `write` goes on to change the heap, and a struct would be built and taken apart in each call.
 fn field(state: State, heap: &[u32], map: &[u32], a: usize, k: usize) -> Result<usize, Refusal>
     ensures code { code_told result ≡ field_code state heap.now map.now a k }
     ensures word { IfOk result (λ at. at ≡ word_of a k) }
