@@ -20,7 +20,7 @@ pub struct Collection {
     pub state: State,
 }
 
-// Why a collection refuses, the reference that it names, or 0, and the state.
+// Why a collection refuses, the reference that it names, and the state. A refusal that names none has 0 there, as the rules say.
 #[derive(Clone, Copy)]
 pub struct Refused {
     pub fault: Fault,

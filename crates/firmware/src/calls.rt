@@ -5,7 +5,7 @@ ghost use Rattle.store.specs.Fields.{written};
 ghost use Rattle.firmware.specs.Calls.{setting_up, hx_sets_up, collecting, hx_collects, allotting, hx_allots, telling, hx_reads, hx_writes, hx_surveys};
 
 use crate::{lent, told};
-use layout::State;
+use layout::{Refusal, State};
 
 // Sets a heap up with no object on it, and hands out its state.
 pub fn hx_set_up(
@@ -18,7 +18,7 @@ pub fn hx_set_up(
     ensures { setting_up result map.new list.new state.new ≡ hx_sets_up heap.now keep map.old list.old state.old }
 {
     if state.len() < lent::STATE_ROOM {
-        return 2;
+        return Refusal::Room.number();
     }
     let (code, fresh) = told::set_up(State::set_up(heap, keep as usize, map, list));
     lent::put_state(state, fresh);
@@ -38,7 +38,7 @@ pub fn hx_collect(
     ensures { collecting result state.new map.new stack.new list.new answer.new ≡ hx_collects state.old heap.now roots.now map.old stack.old list.old answer.old }
 {
     if !((lent::STATE_ROOM <= state.len()) & (5 <= answer.len())) {
-        return 2;
+        return Refusal::Room.number();
     }
     let was = lent::state_in(state);
     let found = collector::collect(was, heap, roots, map, stack, list);
@@ -61,7 +61,7 @@ pub fn hx_allot(
     ensures { allotting result state.new heap.new map.new list.new answer.new ≡ hx_allots state.old heap.old map.old list.old size references answer.old }
 {
     if !((lent::STATE_ROOM <= state.len()) & (1 <= answer.len())) {
-        return 2;
+        return Refusal::Room.number();
     }
     let was = lent::state_in(state);
     let made = store::allot(was, heap, map, list, size as usize, references as usize);
@@ -83,7 +83,7 @@ pub fn hx_read(
     ensures { telling result answer.new ≡ hx_reads state.now heap.now map.now address field answer.old }
 {
     if !((lent::STATE_ROOM <= state.len()) & (1 <= answer.len())) {
-        return 2;
+        return Refusal::Room.number();
     }
     let was = lent::state_in(state);
     let got = store::read(was, heap, map, address as usize, field as usize);
@@ -104,7 +104,7 @@ pub fn hx_write(
     ensures { written result heap.new ≡ hx_writes state.now heap.old map.now address field value }
 {
     if state.len() < lent::STATE_ROOM {
-        return 2;
+        return Refusal::Room.number();
     }
     let was = lent::state_in(state);
     let done = store::write(was, heap, map, address as usize, field as usize, value);
@@ -116,7 +116,7 @@ pub fn hx_survey(state: &[u32], list: &[u32], answer: &mut [u32]) -> u32
     ensures { telling result answer.new ≡ hx_surveys state.now list.now answer.old }
 {
     if !((lent::STATE_ROOM <= state.len()) & (3 <= answer.len())) {
-        return 2;
+        return Refusal::Room.number();
     }
     let was = lent::state_in(state);
     let seen = store::survey(was, list);

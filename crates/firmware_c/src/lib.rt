@@ -1,5 +1,5 @@
 // What C calls, each function that of the crate firmware, which is a library for the theorems: a static library cannot be one. A
-// slice passes as a pointer and a length.
+// slice passes as a pointer and a length, and each answers a number, since that is what C has.
 #![tactic(auto)]
 
 ghost use Rattle.std.specs.Prelude.{◌≡◌, false};

@@ -1,6 +1,8 @@
 -- Laws of the survey's figures.
-use Rattle.std.specs.Prelude.{ℕ, ◌+◌, ◌≤◌, ◌<◌, max, ◌≡◌, List, [], ◌∷◌, length, drop}
-use Rattle.std.proofs.Common.{arith, drop_of_length-le}
+use Rattle.std.specs.Prelude.{ℕ, ◌+◌, ◌≤◌, ◌<◌, max, ◌≡◌, refl, Bool, true, false, cond, ltb, List, [], ◌∷◌, length, drop}
+use Rattle.std.specs.Ordering.{ord_max, nat_cmp, is_lt}
+use Rattle.std.specs.Bool.{◌==◌}
+use Rattle.std.proofs.Common.{arith, ltb-true, ltb-false, Equal, Greater, drop_of_length-le}
 use Rattle.layout.specs.declared.Interval.{Interval}
 use Rattle.runs.specs.Lists.{interval_at, listed}
 use Rattle.freelist.specs.RecordsLaws.{interval_next}
@@ -31,3 +33,15 @@ module _ (l : List Interval) (i : ℕ) (e : i ≡ length l) where
   pub largest_end : largest (drop i l) ≡ 0
   unfolding largest
   largest_end = rw (drop_of_length-le l {i = i} (omega arith))
+
+-- The greater of two numbers, as the code picks it.
+pub picked : (a b : ℕ) → ord_max nat_cmp a b ≡ max a b
+picked a b = go (ltb b a) refl
+  where
+    go : (t : Bool) → ltb b a ≡ t → ord_max nat_cmp a b ≡ max a b
+    go true e = rw e (omega (arith, ltb-true b a e))
+    go false e = rw e (same (b == a))
+      where
+        same : (t : Bool) → cond (is_lt (cond t Equal Greater)) a b ≡ max a b
+        same true = omega (arith, ltb-false b a e)
+        same false = omega (arith, ltb-false b a e)

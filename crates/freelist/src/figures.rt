@@ -25,9 +25,7 @@ impl Figures {
         for record in records {
             let size = interval(record).size;
             listed += size;
-            if largest < size {
-                largest = size;
-            }
+            largest = largest.max(size);
         }
         let fragment = fragment(listed, largest);
         Figures {

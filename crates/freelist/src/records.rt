@@ -37,9 +37,7 @@ pub fn at(list: &[u32], j: usize) -> Interval
     ensures small { (result.start < 4294967296) × (result.size < 4294967296) }
 {
     let at = 2 * j;
-    let start = wide(list[at]);
-    let size = wide(list[at + 1]);
-    Interval { start, size }
+    interval(&[list[at], list[at + 1]])
 }
 
 // Whether the count and the records below it pass refusal 3, in one pass that looks at nothing past the count.

@@ -6,7 +6,8 @@ ghost use Rattle.freelist.specs.Search.{Sorted, fitting, holder};
 use crate::records::{Record, interval};
 use words::wide;
 
-// The record that an allot of s words takes: the first that has them.
+// The record that an allot of s words takes: the first that has them. (Left by `break` with its number, as the rules ask, and so not
+// by `position`.)
 pub fn fitting(records: &[Record], s: usize) -> Option<usize>
     ensures { result ≡ fitting s (intervals records.now) }
 {

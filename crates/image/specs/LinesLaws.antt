@@ -96,11 +96,11 @@ lines_next (b ∷ c ∷ rest) some = byte_next b (c ∷ rest) (eqb b 10) (ap (be
 -- Looking for the LF up to here finds whether it comes in time.
 module _ (text : List ℕ) (to : ℕ) (far : to ≡ min (length text) (suc max_line)) where
   -- None is there, and no line.
-  end_missing : to ≤ index_of 10 (take to text) → length (first_line text) ≡ 0
+  pub end_missing : to ≤ index_of 10 (take to text) → length (first_line text) ≡ 0
   end_missing e = rw (line_missing text (λ inside. omega (arith, index_take 10 to text)))
 
   -- It is there, and ends the line.
-  end_found : index_of 10 (take to text) < to → length (first_line text) ≡ index_of 10 (take to text)
+  pub end_found : index_of 10 (take to text) < to → length (first_line text) ≡ index_of 10 (take to text)
   end_found h =
       let at : index_of 10 (take to text) ≡ index_of 10 text = omega (arith, index_take 10 to text) in
       rw (at, line_ended text (omega arith) (omega arith), length-take-le (index_of 10 text) text (omega arith))
@@ -111,7 +111,3 @@ module _ (text : List ℕ) (to : ℕ) (far : to ≡ min (length text) (suc max_l
       let place = place_found 10 (take to text) e in
       place.0 ∙ sym (end_found (omega (arith, place.0, place.1, length-take-le to text (omega arith))))
   end_read None e = sym (end_missing (omega (arith, place_missing 10 (take to text) e, length-take-le to text (omega arith))))
-
--- A line and its LF are in what is left of a text, if there is some.
-pub line_behind : (text : List ℕ) (at : ℕ) → at < length text → at + (length (first_line (drop at text)) + 1) ≤ length text
-line_behind text at some = line_either (λ line. at + (length line + 1) ≤ length text) (drop at text) (λ inside. omega (arith, length-drop at text, length-take-le (index_of 10 (drop at text)) (drop at text) (omega arith))) (omega arith)

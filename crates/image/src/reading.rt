@@ -69,7 +69,7 @@ fn finish(got: SoFar) -> Result<SoFar, WrongText>
     Ok(got)
 }
 
-// The `words` line: so many words, all 0.
+// The `words` line: so many words, all 0. (By `as`, here and below: the library has no `From` of `u32` to `usize`.)
 fn take_words(mut got: SoFar, number: Option<u32>, heap: &mut [u32]) -> Option<SoFar>
     requires { max_heap ≤ length heap.old }
     ensures { (roots : List ℕ) → shows_next result roots heap.new ≡ takes_words (shows got roots heap.old) number }
@@ -128,7 +128,8 @@ fn take_word(mut got: SoFar, pair: Option<(u32, u32)>, heap: &mut [u32]) -> Opti
     Some(got)
 }
 
-// One line more: its key says what the part after the equals sign is, which is lent by itself, a slice that starts in the line.
+// One line more: its key says what the part after the equals sign is, which is lent by itself, a slice that starts in the line. (By its
+// place, as the rules ask, and so not by `strip_prefix`.)
 fn take(got: SoFar, line: &[u8], roots: &mut [u32], heap: &mut [u32]) -> Option<SoFar>
     requires { LineFits got roots.old heap.old }
     ensures { shows_next result roots.new heap.new ≡ takes_line (shows got roots.old heap.old) line.now }
@@ -148,7 +149,8 @@ fn take(got: SoFar, line: &[u8], roots: &mut [u32], heap: &mut [u32]) -> Option<
     None
 }
 
-// The image of a text, or the number of its first wrong line.
+// The image of a text, or the number of its first wrong line. Roots and heap are lent, and what is read counts them: there is no heap
+// to hold them.
 pub fn read(text: &[u8], roots: &mut [u32], heap: &mut [u32]) -> Result<SoFar, WrongText>
     requires { (max_image_roots ≤ length roots.old) × (max_heap ≤ length heap.old) }
     ensures { shows_text result roots.new heap.new ≡ text_of text.now }

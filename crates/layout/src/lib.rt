@@ -12,7 +12,7 @@ ghost use Rattle.layout.specs.SetUp.{prepared, first_list, set_up_told, sets_up}
 pub use refusal::Refusal;
 
 // How many words of map, stack and list a heap needs.
-#[derive(Clone, Copy)]
+#[derive(Clone, Copy, Default)]
 pub struct Rooms {
     pub map: usize,
     pub stack: usize,
@@ -25,11 +25,7 @@ impl Rooms {
     pub fn of(words: usize, keep: usize) -> Rooms
         ensures { result ≡ rooms_of words keep }
     {
-        Rooms::needed(words, keep).unwrap_or(Rooms {
-            map: 0,
-            stack: 0,
-            list: 0,
-        })
+        Rooms::needed(words, keep).unwrap_or_default()
     }
 
     // The rooms for a heap within the limits.
@@ -69,7 +65,8 @@ impl State {
     // The greatest keep length.
     pub const MAX_KEEP: usize = 65535;
 
-    // Sets a heap up with no object on it: clears map and list, and lists all words but word 0.
+    // Sets a heap up with no object on it: clears map and list, and lists all words but word 0. The buffers may be longer than
+    // needed, as C lends them.
     pub fn set_up(
         heap: &[u32],
         keep: usize,

@@ -8,7 +8,7 @@ use layout::Refusal;
 pub use moves::run;
 
 // How far a collection has come.
-#[derive(Clone, Copy)]
+#[derive(Clone, Copy, Default)]
 pub struct Progress {
     // roots met
     pub next: usize,

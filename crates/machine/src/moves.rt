@@ -38,7 +38,8 @@ impl Machine<'_> {
     }
 }
 
-// Runs the machine to its end, from a clear map and the first list with its count.
+// Runs the machine to its end, from a clear map and the first list with its count. The buffers come one by one, as a collection is
+// lent them.
 pub fn run(
     heap: &[u32],
     keep: usize,
@@ -59,15 +60,9 @@ pub fn run(
         stack,
         list,
         progress: Progress {
-            next: 0,
-            at: 0,
-            left: 0,
-            depth: 0,
             count,
-            objects: 0,
-            live: 0,
-            references: 0,
             peak: count,
+            ..Progress::default()
         },
     };
     while machine.advance()? {}

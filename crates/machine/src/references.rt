@@ -37,9 +37,7 @@ impl Machine<'_> {
         self.progress.count = n;
         self.progress.objects += 1;
         self.progress.live += s;
-        if self.progress.peak < n {
-            self.progress.peak = n;
-        }
+        self.progress.peak = self.progress.peak.max(n);
     }
 
     // Meets the reference r. An object that no listed interval holds overlaps a marked one.

@@ -79,7 +79,7 @@ fn found_lines(to: &mut Writer<'_>, found: Collection, list: &[u32])
     }
 }
 
-// Prints code and where, the lines that come first.
+// Prints code and where, the lines that come first. (Both are numbers here, 0 for none, since numbers are printed.)
 fn code_lines(to: &mut Writer<'_>, code: u32, place: usize)
     ensures { Writes to.old (code_lines code place) to.new }
 {

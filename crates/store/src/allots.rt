@@ -22,7 +22,8 @@ pub struct Refused {
     pub state: State,
 }
 
-// A new object of s words, the first p of its fields references, all fields 0; or a refusal. s and p may be any number.
+// A new object of s words, the first p of its fields references, all fields 0; or a refusal. s and p may be any number. The buffers
+// may be longer than needed, as C lends them.
 pub fn allot(
     state: State,
     heap: &mut [u32],

@@ -5,7 +5,7 @@ ghost use Rattle.store.specs.Survey.{survey_told, surveys};
 use freelist::{Figures, records};
 use layout::{Refusal, Rooms, State};
 
-// The figures of the list, or a refusal. No heap is lent.
+// The figures of the list, or a refusal. No heap is lent, and the list may be longer than needed, as C lends it.
 pub fn survey(state: State, list: &[u32]) -> Result<Figures, Refusal>
     ensures { survey_told result ≡ surveys state list.now }
 {

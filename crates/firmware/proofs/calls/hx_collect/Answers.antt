@@ -25,7 +25,7 @@ small c =
 pub returns-then-not-state-answer : goal.returns-then-not-state-answer
 returns-then-not-state-answer c =
     let t = c.args in
-    collect_short t.state.now t.heap.now t.roots.now t.map.now t.stack.now t.list.now t.answer.now c.if-not-state-answer.true
+    rw c.number.ensures (collect_short t.state.now t.heap.now t.roots.now t.map.now t.stack.now t.list.now t.answer.now c.if-not-state-answer.true)
 
 pub state_in-was-requires : goal.state_in-was-requires
 state_in-was-requires c = (long c).0

@@ -15,7 +15,7 @@ long c = let t = c.args in both_long t.state.now t.answer.now 1 c.if-not-state-a
 pub returns-then-not-state-answer : goal.returns-then-not-state-answer
 returns-then-not-state-answer c =
     let t = c.args in
-    read_short t.state.now t.heap.now t.map.now t.address t.field t.answer.now c.if-not-state-answer.true
+    rw c.number.ensures (read_short t.state.now t.heap.now t.map.now t.address t.field t.answer.now c.if-not-state-answer.true)
 
 pub state_in-was-requires : goal.state_in-was-requires
 state_in-was-requires c = (long c).0

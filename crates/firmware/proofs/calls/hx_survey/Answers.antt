@@ -7,7 +7,7 @@ use Rattle.firmware.specs.LentLaws.{both_long}
 use Rattle.firmware.proofs.calls.hx_survey.Goals as goal
 
 pub returns-then-not-state-answer : goal.returns-then-not-state-answer
-returns-then-not-state-answer c = let t = c.args in survey_short t.state.now t.list.now t.answer.now c.if-not-state-answer.true
+returns-then-not-state-answer c = let t = c.args in rw c.number.ensures (survey_short t.state.now t.list.now t.answer.now c.if-not-state-answer.true)
 
 pub state_in-was-requires : goal.state_in-was-requires
 state_in-was-requires c = let t = c.args in (both_long t.state.now t.answer.now 3 c.if-not-state-answer.false).0

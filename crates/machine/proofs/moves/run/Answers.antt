@@ -4,7 +4,7 @@ use Rattle.machine.specs.RunLaws.{turn_first, turn_less, turn_next, same_buffers
 use Rattle.machine.proofs.moves.run.Goals as goal
 
 pub loop-init : goal.loop-init
-loop-init c = turn_first _ c.requires refl
+loop-init c = turn_first _ c.requires (search rules)
 
 pub loop-smaller : goal.loop-smaller
 loop-smaller c = turn_less c.loop.invariant c.in_ok-advance.ensures (ap Ok c.if-branch.true)

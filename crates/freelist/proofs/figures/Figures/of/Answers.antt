@@ -2,7 +2,7 @@
 use Rattle.std.proofs.Common.{rules, ◌+◌, drop, max, ◌≡◌, ◌<◌, length, sym, ◌∙◌, arith}
 use Rattle.runs.specs.Lists.{interval_at, listed}
 use Rattle.freelist.specs.Figures.{largest}
-use Rattle.freelist.specs.FiguresLaws.{largest_listed, listed_next, largest_next, listed_end, largest_end}
+use Rattle.freelist.specs.FiguresLaws.{largest_listed, listed_next, largest_next, listed_end, largest_end, picked}
 use Rattle.freelist.specs.Records.{intervals}
 use Rattle.freelist.specs.RecordsLaws.{length-intervals, interval_pair}
 use Rattle.freelist.proofs.figures.Figures.of.Goals as goal
@@ -28,7 +28,7 @@ pub loop-record-preserved : goal.loop-record-preserved
 loop-record-preserved c =
     let h = c.loop-record in
     let k = here (goal.at.loop-record-preserved c).After-interval-size in
-    (omega (arith, h.invariant.0, k.0), elim c.if-largest-size.branch [ goal.then-largest-size w ↦ omega (arith, h.invariant.1, k.1) | goal.else-largest-size w ↦ omega (arith, h.invariant.1, k.1) ])
+    (omega (arith, h.invariant.0, k.0), omega (arith, h.invariant.1, k.1, c.max-largest.ensures, picked h.largest c.interval-size.result.size))
 
 -- Behind the loop all records are added up.
 ends : (c : After-loop-record) → let l = intervals c.args.records.now in let h = c.loop-record in (listed l ≡ h.listed) × (largest l ≡ h.largest)
