@@ -1,6 +1,6 @@
 // Random heaps, sound and damaged. A line gives a seed, and how seldom there is damage of each kind, one time in so many
 // and never for 0: references to inner words, references to the outside, damaged headers, overlapping objects.
-ghost use Rattle.std.specs.Prelude.{◌≡◌, ◌<◌, ◌≤◌, length};
+ghost use Rattle.std.specs.Prelude.{◌≡◌, ◌+◌, ◌%◌, ◌^◌, ◌<◌, ◌≤◌, length};
 
 use crate::cut;
 
@@ -15,6 +15,13 @@ pub fn draw(row: &mut usize) -> usize
 {
     *row = next(*row);
     *row
+}
+
+// Adds to a number, which begins anew at 2 ^ 64.
+pub fn add(to: &mut usize, n: usize)
+    ensures { to.new ≡ (to.old + n) % 2 ^ 64 }
+{
+    *to = to.wrapping_add(n);
 }
 
 // A number below n that goes by x.
