@@ -8,7 +8,7 @@ mod shapes;
 ghost use Rattle.std.specs.Prelude.{◌≡◌, ◌≤◌, length};
 
 use random::Random;
-pub use random::{add, below, draw, is_time, next};
+pub use random::{add, below, draw, is_time, next, up_to};
 use shapes::{Shape, Way};
 
 // A buffer as long as the longest that a trial lends, full of junk, which is 7 in every word.

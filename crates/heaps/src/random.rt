@@ -32,6 +32,14 @@ pub fn below(x: usize, n: usize) -> usize
     x / 256 % n
 }
 
+// A number from 0 to n, which is below MOST, that goes by x.
+pub fn up_to<const MOST: usize>(x: usize, n: usize) -> usize
+    requires { 1 ≤ MOST }
+    ensures { (result ≤ n) × (result < MOST) }
+{
+    below(x, n % MOST + 1)
+}
+
 // Whether this is the one time in n.
 pub fn is_time(x: usize, n: usize) -> bool {
     (n != 0) && below(x, n) == 0
