@@ -75,7 +75,8 @@ impl Random {
         })
     }
 
-    // Lays the heap, and writes the root list.
+    // Lays the heap, and writes the root list. The array is fixed since `heaps::lay` is lent no allocator; what is handed on is the
+    // slice of the starts noted.
     pub(crate) fn lay(&self, heap: &mut [u32], roots: &mut [u32]) {
         let mut starts = [0; 8192];
         let n = self.objects(heap, &mut starts);

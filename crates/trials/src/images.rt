@@ -135,7 +135,8 @@ impl Image {
     }
 }
 
-// Overwrites n words of the heap, chosen at random, with an address or one just past the heap, or a header.
+// Overwrites n words of the heap, chosen at random, with an address or one just past the heap, or a header. The loop counts draws, and
+// nothing is indexed by its count.
 fn overwrite(heap: &mut [u32], n: usize, seed: usize) {
     if heap.is_empty() {
         return;
