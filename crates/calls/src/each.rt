@@ -35,7 +35,7 @@ fn code(refusal: Option<Refusal>) -> usize {
 }
 
 impl Station {
-    // Makes a call, with the numbers of a line.
+    // Makes a call, with the numbers of a line. A `match`, since the cases are closed; closures would be no plainer.
     pub(crate) fn call<W: Write>(
         &mut self,
         out: &mut W,

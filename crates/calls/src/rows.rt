@@ -59,11 +59,7 @@ impl Station {
     fn lend(alloc: Global, line: &Line) -> Result<Station, AllocError> {
         let [_, heap, map, stack, list, ..] = line.place;
         Ok(Station {
-            state: State {
-                words: 0,
-                keep: 0,
-                count: 0,
-            },
+            state: State::default(),
             heap: junk(alloc, heap)?,
             map: junk(alloc, map)?,
             stack: junk(alloc, stack)?,

@@ -60,7 +60,7 @@ fn set_up<W: Write>(out: &mut W, place: &[usize; 48]) -> io::Result<()> {
     lines::numbers(out, &[over(map, [0, 0]), over(list, [1, all])], b" ")
 }
 
-// One trial.
+// One trial. A `match`, since the cases are closed; closures would be no plainer.
 pub(crate) fn trial<W: Write>(out: &mut W, line: &Line) -> io::Result<()> {
     match Kind::from(line.kind) {
         Kind::Rooms => rooms(out, &line.place),

@@ -8,17 +8,19 @@ mod shapes;
 ghost use Rattle.std.specs.Prelude.{◌≡◌, ◌≤◌, length};
 
 use random::Random;
-pub use random::{below, draw, is_time, next};
+pub use random::{add, below, draw, is_time, next, up_to};
 use shapes::{Shape, Way};
 
-// A buffer as long as the longest that a trial lends, full of junk, which is 7 in every word.
+// A buffer as long as the longest that a trial lends, full of junk, which is 7 in every word. An array, of which programs lend parts
+// as slices: a `Vec` would need an allocator handed through each program, and could fail.
 pub fn junk() -> [u32; 131073]
     ensures { 131073 ≡ length result }
 {
     [7; 131073]
 }
 
-// How many words of a buffer a line lends, where it asks for n: none if there are not so many.
+// How many words of a buffer a line lends, where it asks for n: none if there are not so many. 0 is a length here like any other, and
+// so no mark for a failure.
 pub fn part(n: usize) -> usize
     ensures { result ≤ 131073 }
 {
@@ -77,7 +79,8 @@ impl From<u8> for Kind {
     }
 }
 
-// Lays the heap and the root list of a line. Letter and numbers come as a line has them, or as `trials` has made them up.
+// Lays the heap and the root list of a line. Letter and numbers come as a line has them, or as `trials` has made them up. `kind`
+// stays a `u8`, since a narrower type would ask more of callers.
 pub fn lay(kind: u8, place: [usize; 48], heap: &mut [u32], roots: &mut [u32]) {
     match Kind::from(kind) {
         Kind::Given => given(&place[9..], heap, roots),

@@ -1,6 +1,6 @@
 // Random heaps, sound and damaged. A line gives a seed, and how seldom there is damage of each kind, one time in so many
 // and never for 0: references to inner words, references to the outside, damaged headers, overlapping objects.
-ghost use Rattle.std.specs.Prelude.{◌≡◌, ◌<◌, ◌≤◌, length};
+ghost use Rattle.std.specs.Prelude.{◌≡◌, ◌+◌, ◌%◌, ◌^◌, ◌<◌, ◌≤◌, length};
 
 use crate::cut;
 
@@ -17,12 +17,27 @@ pub fn draw(row: &mut usize) -> usize
     *row
 }
 
+// Adds to a number, which begins anew at 2 ^ 64.
+pub fn add(to: &mut usize, n: usize)
+    ensures { to.new ≡ (to.old + n) % 2 ^ 64 }
+{
+    *to = to.wrapping_add(n);
+}
+
 // A number below n that goes by x.
 pub fn below(x: usize, n: usize) -> usize
     requires { 1 ≤ n }
     ensures { result < n }
 {
     x / 256 % n
+}
+
+// A number from 0 to n, which is below MOST, that goes by x.
+pub fn up_to<const MOST: usize>(x: usize, n: usize) -> usize
+    requires { 1 ≤ MOST }
+    ensures { (result ≤ n) × (result < MOST) }
+{
+    below(x, n % MOST + 1)
 }
 
 // Whether this is the one time in n.
@@ -60,7 +75,8 @@ impl Random {
         })
     }
 
-    // Lays the heap, and writes the root list.
+    // Lays the heap, and writes the root list. The array is fixed since `heaps::lay` is lent no allocator; what is handed on is the
+    // slice of the starts noted.
     pub(crate) fn lay(&self, heap: &mut [u32], roots: &mut [u32]) {
         let mut starts = [0; 8192];
         let n = self.objects(heap, &mut starts);

@@ -1,5 +1,6 @@
 // The book of a history: how often each call gave each number, sums over all collections, and a digest of every answer.
 use collector::Collection;
+use heaps::add;
 use layout::Refusal;
 use std::io;
 use std::io::Write;
@@ -55,11 +56,6 @@ pub(crate) struct Book {
     others: usize,
     finds: Finds,
     digest: usize,
-}
-
-// Adds to a number of the book.
-fn add(to: &mut usize, n: usize) {
-    *to = to.wrapping_add(n);
 }
 
 impl Book {

@@ -139,7 +139,8 @@ impl<'a> Player<'a> {
         }
     }
 
-    // One turn and, in a heap of fewer than 1,024 words, one time in five sums over all words digested behind it.
+    // One turn and, in a heap of fewer than 1,024 words, one time in five sums over all words digested behind it. A `match` over
+    // ranges of what was drawn; closures would be no plainer.
     fn turn(&mut self, turn: &Turn) {
         match turn.call() {
             0..=37 => self.grow(turn),

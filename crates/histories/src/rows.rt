@@ -7,8 +7,8 @@ use lines::Line;
 use std::io;
 use std::io::Write;
 
-// What a line gives: the words of the heap, the keep length, how many words more than needed are lent of map, stack and list, how
-// many turns there are, the seed, and in how many turns there is one of loss.
+// What a line gives: the words of the heap, the keep length, how many words more than needed are lent of map, stack and list, the
+// seed, how many turns there are, and in how many turns there is one of loss.
 #[derive(Clone, Copy)]
 struct Plan {
     words: usize,

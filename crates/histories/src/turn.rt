@@ -1,7 +1,7 @@
 // What a turn chooses, by the numbers drawn for it.
 ghost use Rattle.std.specs.Prelude.{◌<◌, ◌≤◌};
 
-use heaps::{below, cut, draw, is_time};
+use heaps::{below, cut, draw, is_time, up_to};
 use words::{Header, wide};
 
 // The slots: each is empty, or has the address of an object.
@@ -30,11 +30,6 @@ pub(crate) struct Turn {
     part: usize,
     extra: usize,
     pub(crate) is_loss: bool,
-}
-
-// A number from 0 to n that goes by x; n is below 1,048,576.
-fn up_to(x: usize, n: usize) -> usize {
-    below(x, n % 1048576 + 1)
 }
 
 // A slot: any of the 24, or of the first few where the heap has not many words.
@@ -103,9 +98,9 @@ impl Turn {
     pub(crate) fn size(&self, words: usize, keep: usize) -> usize {
         let x = self.amount;
         match below(self.rarity, 40) {
-            0 => up_to(x, keep),
+            0 => up_to::<1048576>(x, keep),
             1 => 65536 + below(x, 3),
-            2..=4 => keep.wrapping_add(up_to(x, words / (4 * below(self.part, 64) + 4))),
+            2..=4 => keep.wrapping_add(up_to::<1048576>(x, words / (4 * below(self.part, 64) + 4))),
             _ => keep.wrapping_add(below(x, 8)),
         }
     }
@@ -134,7 +129,7 @@ impl Turn {
     pub(crate) fn address(&self, oddity: Oddity, slots: &Slots, words: usize) -> usize {
         let a = wide(slots[self.slot(words)]);
         match oddity {
-            Oddity::AnyWord => up_to(self.amount, words.wrapping_add(2)),
+            Oddity::AnyWord => up_to::<1048576>(self.amount, words.wrapping_add(2)),
             Oddity::HugeAddress => 4294967296 + a,
             _ => a,
         }
@@ -163,7 +158,7 @@ impl Turn {
         let x = self.part;
         match below(self.choice, 8) {
             0 => 0,
-            1 => cut(up_to(x, words.wrapping_add(2))),
+            1 => cut(up_to::<1048576>(x, words.wrapping_add(2))),
             2 => cut(x.wrapping_add(self.extra)),
             _ => slots[slot(x, words)],
         }

@@ -1,6 +1,7 @@
 // The book of a group.
 use crate::compare::Answer;
 use crate::difference::Difference;
+use heaps::add;
 use std::io;
 use std::io::Write;
 
@@ -20,11 +21,6 @@ pub(crate) struct Book {
     peaks: usize,
     peak: usize,
     differing: usize,
-}
-
-// Adds to a number of the book.
-fn add(to: &mut usize, n: usize) {
-    *to = to.wrapping_add(n);
 }
 
 impl Book {

@@ -1,6 +1,7 @@
 // What can differ between what a collection left and what is due.
 use crate::compare::{Outcome, Trial};
 use crate::images::Image;
+use heaps::add;
 use std::alloc::Global;
 use std::io;
 use std::io::Write;
@@ -20,11 +21,6 @@ pub(crate) enum Difference {
     Map = 10,
     Stack = 11,
     List = 12,
-}
-
-// Adds 1 to a number.
-fn raise(number: &mut usize) {
-    *number = number.wrapping_add(1);
 }
 
 // Adds 1 to the first word, if there is one.
@@ -83,15 +79,15 @@ impl Difference {
     pub(crate) fn make(self, came: &mut Outcome) {
         let answer = &mut came.answer;
         match self {
-            Difference::Code => raise(&mut answer.code),
-            Difference::Place => raise(&mut answer.place),
-            Difference::Objects => raise(&mut answer.objects),
-            Difference::Live => raise(&mut answer.live),
-            Difference::References => raise(&mut answer.references),
-            Difference::Peak => raise(&mut answer.peak),
-            Difference::Words => raise(&mut answer.words),
-            Difference::Keep => raise(&mut answer.keep),
-            Difference::Count => raise(&mut answer.count),
+            Difference::Code => add(&mut answer.code, 1),
+            Difference::Place => add(&mut answer.place, 1),
+            Difference::Objects => add(&mut answer.objects, 1),
+            Difference::Live => add(&mut answer.live, 1),
+            Difference::References => add(&mut answer.references, 1),
+            Difference::Peak => add(&mut answer.peak, 1),
+            Difference::Words => add(&mut answer.words, 1),
+            Difference::Keep => add(&mut answer.keep, 1),
+            Difference::Count => add(&mut answer.count, 1),
             Difference::Map => raise_first(&mut came.map),
             Difference::Stack => raise_first(&mut came.stack),
             Difference::List => raise_first(&mut came.list),

@@ -2,7 +2,7 @@
 ghost use Rattle.std.specs.Prelude.{◌≤◌};
 
 use crate::groups::{Group, Kind};
-use heaps::{below, cut, draw, next};
+use heaps::{below, cut, draw, next, up_to};
 use layout::Rooms;
 
 // An image: its words and keep length, a count that a collection ignores, junk, how many words of map, stack and list are needed, and
@@ -30,7 +30,7 @@ fn skip(row: &mut usize, n: usize) {
 }
 
 // A number from 1 to n, which is below 320, that goes by x.
-fn up_to(x: usize, n: usize) -> usize
+fn from_one(x: usize, n: usize) -> usize
     ensures { (1 ≤ result) × (result ≤ 320) }
 {
     if n % 320 == 0 {
@@ -38,13 +38,6 @@ fn up_to(x: usize, n: usize) -> usize
     } else {
         1 + below(x, n % 320)
     }
-}
-
-// A number from 0 to n, which is below 16, that goes by x.
-fn at_most(x: usize, n: usize) -> usize
-    ensures { result ≤ 16 }
-{
-    below(x, n % 16 + 1)
 }
 
 // A seed at another point of the row than x, so that what is drawn from it is not drawn for an image too: x with its halves swapped.
@@ -75,7 +68,7 @@ fn told(row: &mut usize, group: &Group, keep: usize) -> [usize; 5]
         return [apart(a), inner, outside, damaged, overlaps];
     }
     let size = keep + below(a, 6);
-    let stride = size + at_most(b, group.between) - below(d, 8) / 7;
+    let stride = size + up_to::<16>(b, group.between) - below(d, 8) / 7;
     [size, stride, keep + below(c, 20), 0, 0]
 }
 
@@ -83,14 +76,14 @@ impl Image {
     // The next image of a group, for which 48 numbers of the row are drawn.
     pub(crate) fn draw(row: &mut usize, group: &Group) -> Image {
         skip(row, 1);
-        let words = up_to(draw(row), group.words);
-        let keep = up_to(draw(row), group.keep);
+        let words = from_one(draw(row), group.words);
+        let keep = from_one(draw(row), group.keep);
         let count = draw(row);
         let junk = cut(draw(row));
         skip(row, 3);
-        let roots = at_most(draw(row), group.roots);
+        let roots = up_to::<16>(draw(row), group.roots);
         let told = told(row, group, keep);
-        let overwritten = at_most(draw(row), group.overwritten);
+        let overwritten = up_to::<16>(draw(row), group.overwritten);
         let seed = apart(draw(row));
         let needed = needed(words, keep);
         let lent = Rooms {
@@ -142,7 +135,8 @@ impl Image {
     }
 }
 
-// Overwrites n words of the heap, chosen at random, with an address or one just past the heap, or a header.
+// Overwrites n words of the heap, chosen at random, with an address or one just past the heap, or a header. The loop counts draws, and
+// nothing is indexed by its count.
 fn overwrite(heap: &mut [u32], n: usize, seed: usize) {
     if heap.is_empty() {
         return;

@@ -45,7 +45,7 @@ pub(crate) struct Marking<'a> {
     pub(crate) peak: usize,
 }
 
-// A word as a number.
+// A word as a number: `words::wide` written anew on purpose, since the mark-sweep shares no code with the collector.
 fn number(word: &u32) -> usize {
     *word as usize
 }
