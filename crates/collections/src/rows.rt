@@ -6,7 +6,8 @@ use lines::Line;
 use std::io;
 use std::io::Write;
 
-// Prints what a collection answered: code and place, the counts; words, keep and count of the state.
+// Prints what a collection answered: code and place, the counts; words, keep and count of the state. (`calls` lays its numbers out so
+// too; a library for one `match` would be no plainer.)
 fn answer<W: Write>(out: &mut W, got: Result<Collection, Refused>) -> io::Result<()> {
     let (came, state) = match got {
         Ok(found) => {

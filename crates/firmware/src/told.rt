@@ -1,4 +1,5 @@
-// What the calls answer, in the numbers that C is handed: the refusal's number or 0, and the rest.
+// What the calls answer, in the numbers that C is handed: the refusal's number or 0, and the rest. Each answer has a function of its
+// own, as it has a reading of its own in the rules, which says what is handed out where a call refuses.
 ghost use Rattle.std.specs.Prelude.{◌≡◌};
 ghost use Rattle.layout.specs.Refusal.{code_told};
 ghost use Rattle.layout.specs.SetUp.{set_up_told};

@@ -5,7 +5,7 @@ use layout::Refusal;
 use std::io;
 use std::io::Write;
 
-// The calls.
+// The calls. (A type beside that of `calls`, which stands for letters.)
 #[derive(Clone, Copy)]
 pub(crate) enum Call {
     SetUp,

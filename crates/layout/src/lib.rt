@@ -28,7 +28,7 @@ impl Rooms {
         Rooms::needed(words, keep).unwrap_or_default()
     }
 
-    // The rooms for a heap within the limits.
+    // The rooms for a heap within the limits. Words and keep length come as two numbers, as C has them before there is a state.
     pub fn needed(words: usize, keep: usize) -> Result<Rooms, Refusal>
         ensures { result ≡ needed words keep }
     {

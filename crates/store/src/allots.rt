@@ -15,7 +15,7 @@ pub struct NewObject {
     pub state: State,
 }
 
-// Why an allot refuses, and the state.
+// Why an allot refuses, and the state. (A type beside the collector's, whose refusals name a reference.)
 #[derive(Clone, Copy)]
 pub struct Refused {
     pub refusal: Refusal,

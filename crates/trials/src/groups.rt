@@ -15,7 +15,7 @@ pub(crate) enum Kind {
     Fan,
 }
 
-// The letter of a kind.
+// The letter of a kind, which `heaps::lay` takes.
 impl From<Kind> for u8 {
     fn from(kind: Kind) -> u8 {
         match kind {

@@ -21,7 +21,7 @@ impl Header {
         Header { size, refs }
     }
 
-    // The word of a header.
+    // The word of a header. (Not by `From`, since it asks that both numbers fit.)
     pub fn word(size: usize, refs: usize) -> u32
         requires { (size < 65536) × (refs < 65536) }
         ensures { result ≡ header_word size refs }
