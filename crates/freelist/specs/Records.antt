@@ -8,14 +8,10 @@ use Rattle.runs.specs.Lists.{end}
 abbrev pub record_at : List ℕ → ℕ → Interval
 record_at list j = record { start = get_or list (2 * j) 0; size = get_or list (2 * j + 1) 0 }
 
--- The interval that a pair of words stands for.
-abbrev pub interval_of : List ℕ → Interval
-interval_of pair = record { start = get_or pair 0 0; size = get_or pair 1 0 }
-
--- The intervals that pairs of words stand for.
+-- The intervals that pairs of words stand for, each a list of one record.
 unfoldable pub intervals : List (List ℕ) → List Interval
 intervals [] = []
-intervals (pair ∷ pairs) = interval_of pair ∷ intervals pairs
+intervals (pair ∷ pairs) = record_at pair 0 ∷ intervals pairs
 
 -- The intervals in the first n records.
 unfoldable pub records : ℕ → List ℕ → List Interval

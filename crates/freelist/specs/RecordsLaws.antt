@@ -9,7 +9,7 @@ use Rattle.layout.specs.Limits.{list_room, list_words}
 use Rattle.layout.specs.Intervals.{flat}
 use Rattle.runs.specs.Lists.{nowhere, interval_at, end, Ordered, none, one}
 use Rattle.std.specs.Simd.{first_chunks}
-use Rattle.freelist.specs.Records.{record_at, interval_of, intervals, records, in_order, valid_list}
+use Rattle.freelist.specs.Records.{record_at, intervals, records, in_order, valid_list}
 
 -- As many intervals are read as records.
 pub length-records : (n : ℕ) (list : List ℕ) → length (records n list) ≡ n
@@ -60,7 +60,7 @@ length-intervals [] = refl
 length-intervals (p ∷ pairs) = ap suc (length-intervals pairs)
 
 -- The interval at a place is that of the pair there.
-pub interval_pair : (pairs : List (List ℕ)) (i : ℕ) (d : List ℕ) → i < length pairs → interval_at (intervals pairs) i ≡ interval_of (get_or pairs i d)
+pub interval_pair : (pairs : List (List ℕ)) (i : ℕ) (d : List ℕ) → i < length pairs → interval_at (intervals pairs) i ≡ record_at (get_or pairs i d) 0
 unfolding intervals
 interval_pair [] i d h = absurd (omega arith)
 interval_pair (p ∷ pairs) zero d h = refl

@@ -1,7 +1,7 @@
 // Records of the list: two words each, start and size.
 ghost use Rattle.std.specs.Prelude.{◌≡◌, ◌+◌, ◌*◌, ◌≤◌, ◌<◌, length};
 ghost use Rattle.layout.specs.Limits.{list_words};
-ghost use Rattle.freelist.specs.Records.{record_at, interval_of, intervals, records, valid_list};
+ghost use Rattle.freelist.specs.Records.{record_at, intervals, records, valid_list};
 
 use layout::Interval;
 use words::wide;
@@ -20,7 +20,7 @@ pub fn below(list: &[u32], count: usize) -> &[Record]
 
 // The interval of a record.
 pub fn interval(record: &Record) -> Interval
-    ensures value { result ≡ interval_of record.now }
+    ensures value { result ≡ record_at record.now 0 }
     ensures small { (result.start < 4294967296) × (result.size < 4294967296) }
 {
     let [start, size] = *record;
