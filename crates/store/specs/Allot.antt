@@ -4,7 +4,6 @@ use Rattle.words.specs.Header.{header_word}
 use Rattle.words.specs.Map.{set_bit}
 use Rattle.layout.specs.Limits.{suits, map_words, list_words}
 use Rattle.layout.specs.Refusal.{unless, number}
-use Rattle.layout.specs.declared.refusal.Refusal.{Refusal}
 use Rattle.layout.specs.declared.Interval.{Interval}
 use Rattle.layout.specs.declared.State.{State}
 use Rattle.runs.specs.Lists.{interval_at, without_front}
@@ -39,11 +38,6 @@ allot_refused code state = record { code = code; address = 0; state = state }
 abbrev pub allot_told : Result NewObject Refused → Allotted
 allot_told (Ok x) = record { code = 0; address = x.address; state = x.state }
 allot_told (Err r) = allot_refused (number r.refusal) r.state
-
--- The same of an answer whose refusal goes with a state.
-abbrev pub allotted : State → Result NewObject Refusal → Allotted
-allotted state (Ok x) = record { code = 0; address = x.address; state = x.state }
-allotted state (Err refusal) = allot_refused (number refusal) state
 
 -- An object of s words with p references may be asked for, where t is the keep length.
 abbrev pub askable : ℕ → ℕ → ℕ → Bool

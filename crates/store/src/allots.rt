@@ -2,7 +2,7 @@
 ghost use Rattle.std.specs.Prelude.{◌≡◌, ◌+◌, ◌≤◌, ◌<◌, length};
 ghost use Rattle.layout.specs.Limits.{list_words};
 ghost use Rattle.layout.specs.Refusal.{code_told};
-ghost use Rattle.store.specs.Allot.{asked_code, with_object, allotment, allotted, allot_told, allots_in, allots, Parts};
+ghost use Rattle.store.specs.Allot.{asked_code, with_object, allotment, allot_told, allots_in, allots, Parts};
 
 use freelist::{records, search};
 use layout::{Refusal, State, parts};
@@ -41,7 +41,7 @@ pub fn allot(
     if !((m <= map.len()) & (n <= list.len())) {
         return Err(refused(Refusal::Room));
     }
-    allot_in(state, heap, &mut map[..m], &mut list[..n], s, p).map_err(refused)
+    allot_in(state, heap, &mut map[..m], &mut list[..n], s, p)
 }
 
 // An allot in the needed parts of map and list.
@@ -52,16 +52,17 @@ fn allot_in(
     list: &mut [u32],
     s: usize,
     p: usize,
-) -> Result<NewObject, Refusal>
+) -> Result<NewObject, Refused>
     requires { Parts state heap.old map.old list.old }
-    ensures { allotment (allotted state result) heap.new map.new list.new ≡ allots_in state heap.old map.old list.old s p }
+    ensures { allotment (allot_told result) heap.new map.new list.new ≡ allots_in state heap.old map.old list.old s p }
 {
     let words = state.words;
     let keep = state.keep;
     let count = state.count;
-    asked(list, count, words, keep, s, p)?;
+    asked(list, count, words, keep, s, p).map_err(|refusal| Refused { refusal, state })?;
     let Some(j) = search::fitting(records::below(list, count), s) else {
-        return Err(Refusal::Full);
+        let refusal = Refusal::Full;
+        return Err(Refused { refusal, state });
     };
     let record = records::at(list, j);
     let address = record.start;

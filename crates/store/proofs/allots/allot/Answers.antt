@@ -5,7 +5,6 @@ use Rattle.layout.specs.LimitsLaws.{fitted_ok, fitted_err, suits_by, suits_tells
 use Rattle.layout.specs.declared.Rooms.{Rooms}
 use Rattle.layout.specs.declared.refusal.Refusal.{Refusal}
 use Rattle.layout.specs.declared.refusal.Refusal.TheVariants.{Room}
-use Rattle.store.specs.Allot.{allot_told, allotted}
 use Rattle.store.proofs.AllotLaws.{allot_limits, allot_short, fits, parts, allot_parts}
 use Rattle.store.proofs.allots.allot.Goals as goal
 use Rattle.store.proofs.allots.allot.Goals.{In_ok-rooms, After-from_residual, Else-not-m-map}
@@ -66,5 +65,4 @@ pub returns : goal.returns
 returns c =
     let t = c.args in
     let k = rooms (goal.at.returns c).In_ok-rooms in
-    let same : allot_told c.map_err-2.result ≡ allotted t.state c.allot_in.result = search rules in
-    rw same (allot_parts t.state t.heap.now t.map.now t.list.now t.s t.p k.0 k.1 c.if-not-m-map.false c.allot_in.ensures)
+    allot_parts t.state t.heap.now t.map.now t.list.now t.s t.p k.0 k.1 c.if-not-m-map.false c.allot_in.ensures
