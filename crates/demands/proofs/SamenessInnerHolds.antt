@@ -1,4 +1,4 @@
--- For each public function that only this project's own crates call, but `machine::run`: two outcomes that its contract allows for one input are equal.
+-- For each public function that only this project's own crates call, but `machine::run`, `records::below` and `image::read`: two outcomes that its contract allows for one input are equal.
 use Rattle.std.specs.Prelude.{◌≡◌}
 use borrow.Fn.Kinds.{ended_of}
 use Rattle.std.proofs.Common.{sym, ◌∙◌}
