@@ -103,6 +103,8 @@ pub(crate) fn run<W: Write>(
     match lent {
         Some(station) if line.kind != b'b' => station.turn(out, line),
         _ => {
+            // What was lent before goes back first.
+            *lent = None;
             *lent = Some(Station::lend(alloc, line)?);
             Ok(())
         }

@@ -36,12 +36,13 @@ pub(crate) fn trial<W: Write>(out: &mut W, line: &Line) -> io::Result<()> {
     let [_, words, keep, count, h, m, a, n, r, ..] = line.place;
     let mut heap = [0; 65537];
     let mut roots = [0; 65537];
+    let (Some(heap), Some(roots)) = (heap.get_mut(..h), roots.get_mut(..r)) else {
+        return Ok(());
+    };
     let mut map = heaps::junk();
     let mut stack = heaps::junk();
     let mut list = heaps::junk();
-    let (Some(heap), Some(roots), Some(map), Some(stack), Some(list)) = (
-        heap.get_mut(..h),
-        roots.get_mut(..r),
+    let (Some(map), Some(stack), Some(list)) = (
         map.get_mut(..m),
         stack.get_mut(..a),
         list.get_mut(..n),

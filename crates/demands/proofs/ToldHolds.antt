@@ -18,6 +18,9 @@ use Rattle.store.specs.declared.allots.NewObject.{NewObject}
 use Rattle.store.specs.declared.allots.Refused as allot
 use Rattle.store.specs.Fields.{Reading, Written, read_told, reads, writes}
 use Rattle.store.specs.Survey.{Surveyed, survey_told, surveys}
+use Rattle.image.specs.SoFar.{Numbered, wrong_line}
+use Rattle.image.specs.declared.reading.WrongText.{WrongText}
+use Rattle.image.specs.declared.reading.WrongText.TheVariants.{TooLong, Line}
 use Rattle.demands.specs.Lent.{Lent}
 use Rattle.demands.specs.Demand1.{Refuses, lent_refused, marking_refused}
 use Rattle.demands.proofs.LentLaws.{lent_cases, lent_parts}
@@ -139,3 +142,10 @@ survey_one (Ok f) (Ok g) e = ap (λ (a : Surveyed). Ok a.figures) e
 survey_one (Ok f) (Err r) e = absurd (omega (arith, number_some r, ap (λ (a : Surveyed). a.code) e))
 survey_one (Err r) (Ok f) e = absurd (omega (arith, number_some r, ap (λ (a : Surveyed). a.code) e))
 survey_one (Err r) (Err q) e = ap Err (number_one r q (ap (λ (a : Surveyed). a.code) e))
+
+-- Nor are those of a wrong text, where its lines are numbered from 1 on, as `image::read` numbers them.
+pub wrong_one : (x y : WrongText) → Numbered x → Numbered y → wrong_line x ≡ wrong_line y → x ≡ y
+wrong_one TooLong TooLong p q e = refl
+wrong_one TooLong (Line n) p q e = absurd (omega (arith, q, e))
+wrong_one (Line n) TooLong p q e = absurd (omega (arith, p, e))
+wrong_one (Line m) (Line n) p q e = ap (λ (k : ℕ). Line k) e

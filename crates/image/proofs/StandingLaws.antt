@@ -9,9 +9,10 @@ use Rattle.std.proofs.Math.Bool.{and-eq-true_iff, and-false}
 use Rattle.std.proofs.lemmas.Bool.{eq-eqb, ne_eqb, lt-leb}
 use Rattle.image.specs.Bytes.{index_after, index_of}
 use Rattle.image.specs.Decimal.{is_plain, decimal_of, pair_of}
-use Rattle.image.specs.Image.{wrong, starts, read_on, text_of}
+use Rattle.image.specs.Image.{wrong, right, starts, read_on, text_of}
 use Rattle.image.specs.Lines.{lines_of}
-use Rattle.image.specs.ReadingLaws.{Between}
+use Rattle.image.specs.ReadingLaws.{Between, ends_right, text_ends}
+use Rattle.image.specs.SoFar.{shows}
 use Rattle.image.specs.declared.so_far.SoFar.{SoFar}
 
 -- A line has the bytes that it starts with.
@@ -108,3 +109,7 @@ module _ (part : List ℕ) {c : ℕ} (found : c ≡ 0 + index_of 44 (slice 0 (le
 pub text_missing : {text roots heap : List ℕ} {b : SoFar} {at : ℕ} → Between text roots heap b at → length text ≤ at → b.lines < 2 → wrong (b.lines + 1) ≡ text_of text
 unfolding read_on lines_of
 text_missing {text} {roots} {heap} {b} g le few = sym (rw (drop_of_length-le text le, lt-leb 2 b.lines few)) ∙ g.rest
+
+-- Else the text is right.
+pub text_right : {text roots heap : List ℕ} {b : SoFar} {at : ℕ} → Between text roots heap b at → length text ≤ at → 2 ≤ b.lines → right (shows b roots heap) ≡ text_of text
+text_right {roots = roots} {heap = heap} {b = b} g le enough = ends_right (shows b roots heap) enough ∙ text_ends g le

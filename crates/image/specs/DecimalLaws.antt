@@ -54,6 +54,11 @@ pub number_lost : {E : Type 0} (r : Result ℕ E) (n : ℕ) → OkIff r (n < 2 ^
 number_lost (Ok y) n k e = absurd (cc)
 number_lost {E = E} (Err d) n k e = let above = OkIff-at_err {E = E} (Err d) (n < 2 ^ 32) n d k refl in omega (arith, above)
 
+-- One that is below 2 ^ 32 is kept.
+pub number_in : {E : Type 0} (r : Result ℕ E) (n : ℕ) → OkIff r (n < 2 ^ 32) n → n < 2 ^ 32 → result_ok r ≡ Some n
+number_in {E = E} (Ok y) n k l = let q = number_kept {E = E} (Ok y) n {x = y} k refl in cc
+number_in {E = E} (Err d) n k l = let over = number_lost {E = E} (Err d) n k refl in absurd (omega (arith, l, over))
+
 -- At the end the number is what was read.
 pub digits_end : (part : List ℕ) (n i : ℕ) → length part ≤ i → digits_on n (drop i part) ≡ Some n
 unfolding digits_on

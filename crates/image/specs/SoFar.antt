@@ -1,5 +1,5 @@
 -- How the numbers of the code and the words that it is lent stand for an image.
-use Rattle.std.specs.Prelude.{ℕ, ◌≤◌, ◌<◌, List, length, take, Option, Some, None, Result, Ok, Err}
+use Rattle.std.specs.Prelude.{ℕ, ◌≤◌, ◌<◌, List, length, take, Option, Some, None, Result, Ok, Err, ⊤}
 use Rattle.image.specs.Image.{max_text, max_heap, max_image_roots, Image, Taken, on, off, Text, right, wrong}
 use Rattle.image.specs.declared.so_far.SoFar.{SoFar}
 use Rattle.image.specs.declared.reading.WrongText.{WrongText}
@@ -18,6 +18,11 @@ shows_next None roots heap = off
 abbrev pub wrong_line : WrongText → ℕ
 wrong_line TooLong = 0
 wrong_line (Line n) = n
+
+-- A wrong line has a number from 1 on, so that 0 is that of a text that is too long alone.
+abbrev pub Numbered : WrongText → Type 0
+Numbered TooLong = ⊤
+Numbered (Line n) = 1 ≤ n
 
 -- What a text is.
 abbrev pub shows_text : Result SoFar WrongText → List ℕ → List ℕ → Text

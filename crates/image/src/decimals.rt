@@ -19,15 +19,17 @@ fn is_plain(part: &[u8]) -> bool
 fn digits(part: &[u8]) -> Option<u32>
     ensures { result ≡ digits_on 0 part.now }
 {
-    let mut n = 0u32;
+    let mut n = 0u64;
     for byte in part {
         if !byte.is_ascii_digit() {
             return None;
         }
-        let more = 10 * u64::from(n) + u64::from(*byte - b'0');
-        n = u32::try_from(more).ok()?;
+        n = 10 * n + u64::from(*byte - b'0');
+        if 4294967295 < n {
+            return None;
+        }
     }
-    Some(n)
+    u32::try_from(n).ok()
 }
 
 // A decimal: digits alone, without a leading zero, below 2 ^ 32.

@@ -1,8 +1,8 @@
 // Line by line: what the lines so far stand for, in numbers and in the words lent for roots and heap.
-ghost use Rattle.std.specs.Prelude.{◌≡◌, ◌+◌, ◌≤◌, ◌<◌, List, [], length, ℕ};
+ghost use Rattle.std.specs.Prelude.{◌≡◌, ◌+◌, ◌≤◌, ◌<◌, List, [], length, ℕ, IfErr};
 ghost use Rattle.image.specs.Image.{max_text, max_heap, max_image_roots, takes_words, takes_keep, takes_root, takes_word, takes_line, blank, read_on, text_of};
 ghost use Rattle.image.specs.declared.reading.WrongText.TheVariants.{Line};
-ghost use Rattle.image.specs.SoFar.{shows, shows_next, wrong_line, shows_text, LineFits};
+ghost use Rattle.image.specs.SoFar.{shows, shows_next, wrong_line, shows_text, Numbered, LineFits};
 
 use crate::decimals;
 use crate::reader::Reader;
@@ -61,7 +61,8 @@ fn next_wrong(got: SoFar) -> WrongText
 // The end of the text: the first two lines may not be missing.
 fn finish(got: SoFar) -> Result<SoFar, WrongText>
     requires { got.lines ≤ max_text }
-    ensures { (roots heap : List ℕ) → shows_text result roots heap ≡ read_on (shows got roots heap) [] }
+    ensures meaning { (roots heap : List ℕ) → shows_text result roots heap ≡ read_on (shows got roots heap) [] }
+    ensures numbered { IfErr result Numbered }
 {
     if got.lines < 2 {
         return Err(next_wrong(got));
@@ -153,7 +154,8 @@ fn take(got: SoFar, line: &[u8], roots: &mut [u32], heap: &mut [u32]) -> Option<
 // to hold them.
 pub fn read(text: &[u8], roots: &mut [u32], heap: &mut [u32]) -> Result<SoFar, WrongText>
     requires { (max_image_roots ≤ length roots.old) × (max_heap ≤ length heap.old) }
-    ensures { shows_text result roots.new heap.new ≡ text_of text.now }
+    ensures meaning { shows_text result roots.new heap.new ≡ text_of text.now }
+    ensures numbered { IfErr result Numbered }
 {
     if MAX_TEXT < text.len() {
         return Err(WrongText::TooLong);

@@ -25,30 +25,33 @@ fn more(n: usize, byte: u8) -> usize {
     }
 }
 
-// The number in each place of a line. The last place has the digits of all that stands behind.
-fn places(line: &[u8]) -> [usize; 48] {
-    let mut place = [0; 48];
-    for (k, part) in line.split(|byte| *byte == b' ').enumerate() {
-        let k = k.min(47);
-        place[k] = part.iter().copied().fold(place[k], more);
-    }
-    place
-}
-
-// The line that begins at `at`.
+// The line that begins at `at`. Its last place has the digits of all that stands behind. (One loop, since a line would be gone over
+// three times by `position`, `split` and `fold`.)
 pub fn line_at(text: &[u8], at: usize) -> Line
     requires { at < length text.now }
     ensures { (at ≤ result.end) × (result.end ≤ length text.now) }
 {
     let rest = &text[at..];
-    let size = rest
-        .iter()
-        .position(|byte| *byte == b'\n')
-        .unwrap_or(rest.len());
+    let mut place = [0; 48];
+    let mut k = 0;
+    for (size, byte) in rest.iter().enumerate() {
+        match *byte {
+            b'\n' => {
+                return Line {
+                    kind: text[at],
+                    place,
+                    end: at + size,
+                };
+            }
+            b' ' => k = (k + 1).min(47),
+            b'0'..=b'9' => place[k] = more(place[k], *byte),
+            _ => {}
+        }
+    }
     Line {
         kind: text[at],
-        place: places(&rest[..size]),
-        end: at + size,
+        place,
+        end: text.len(),
     }
 }
 

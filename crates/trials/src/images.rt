@@ -57,6 +57,17 @@ fn needed(words: usize, keep: usize) -> Rooms
     }
 }
 
+// How many words of a buffer are lent, where so many are needed: up to three more, by a number drawn.
+fn lent(needed: usize, draw: usize) -> usize
+    ensures { result ≤ 640 }
+{
+    if needed <= 637 {
+        needed + below(draw, 4)
+    } else {
+        0
+    }
+}
+
 // What `heaps` is told: of a random heap a seed, and how seldom there is damage of each kind; of any other the words of an object, how
 // far behind it the next one starts, one time in eight a word nearer, and the references of a fan.
 fn told(row: &mut usize, group: &Group, keep: usize) -> [usize; 5]
@@ -87,9 +98,9 @@ impl Image {
         let seed = apart(draw(row));
         let needed = needed(words, keep);
         let lent = Rooms {
-            map: needed.map.wrapping_add(below(draw(row), 4)),
-            stack: needed.stack.wrapping_add(below(draw(row), 4)),
-            list: needed.list.wrapping_add(below(draw(row), 4)),
+            map: lent(needed.map, draw(row)),
+            stack: lent(needed.stack, draw(row)),
+            list: lent(needed.list, draw(row)),
         };
         skip(row, 29);
         Image {

@@ -1,4 +1,6 @@
 // The marking of the mark-sweep. Objects that are marked are put off, and their references met later, the last one's first.
+ghost use Rattle.std.specs.Prelude.{◌≤◌, length, IfSome};
+
 use crate::sweep;
 use std::alloc::{AllocError, AllocFailed, Global};
 
@@ -74,8 +76,10 @@ impl<'a> Marking<'a> {
         Ok(marking)
     }
 
-    // Where the object at w ends, if its header is well-formed.
-    fn end(&self, w: usize) -> Option<usize> {
+    // Where the object at w ends, which is in the heap, if its header is well-formed.
+    fn end(&self, w: usize) -> Option<usize>
+        ensures { IfSome result (λ end. end ≤ length self.now.heap.now) }
+    {
         let header = number(self.heap.get(w)?);
         let size = header % 65536;
         let refs = header / 65536;

@@ -1,10 +1,10 @@
 -- `hx_allot`: the allot's own outcome, with its state and the address in words.
-use Rattle.std.proofs.Common.{lit<}
+use Rattle.std.proofs.Common.{lit<, subst, sym}
 use Prim.Native.Nat.{◌≤◌}
 use lib.ListN.{length}
 use Rattle.store.specs.Allot.{allot_told}
 use Rattle.firmware.specs.Lent.{state_room}
-use Rattle.firmware.specs.Fits.{AllottedFits}
+use Rattle.firmware.specs.Fits.{StateFits, AllottedFits}
 use Rattle.firmware.specs.LentLaws.{both_long}
 use Rattle.firmware.specs.FitsLaws.{allot_fits}
 use Rattle.firmware.specs.CallsLaws.{allot_short, allot_crosses}
@@ -35,7 +35,7 @@ allot-code-requires c = small (goal.at.allot-code-requires c).After-allot-made
 pub put_state-requires : goal.put_state-requires
 put_state-requires c =
     let at = goal.at.put_state-requires c in
-    ((long at.Else-not-state-answer).0, rw c.allot-code.ensures.state (small at.After-allot-made).state)
+    ((long at.Else-not-state-answer).0, subst StateFits (sym c.allot-code.ensures.state) (small at.After-allot-made).state)
 
 pub put-requires : goal.put-requires
 put-requires c = (lit< tt, (long (goal.at.put-requires c).Else-not-state-answer).1)

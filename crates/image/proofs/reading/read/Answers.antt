@@ -5,8 +5,8 @@ use Rattle.image.specs.declared.reading.WrongText.TheVariants.{Line}
 use Rattle.image.specs.ReadingLaws.{text_long, text_begins, text_ends, line_stops, next_inside, line_goes}
 use Rattle.image.proofs.reading.read.Goals as goal
 
-pub returns-then-text-gt-MAX_TEXT : goal.returns-then-text-gt-MAX_TEXT
-returns-then-text-gt-MAX_TEXT c = text_long c.args.text.now c.if-text-gt-MAX_TEXT.true
+pub returns-then-text-gt-MAX_TEXT-clause-meaning : goal.returns-then-text-gt-MAX_TEXT-clause-meaning
+returns-then-text-gt-MAX_TEXT-clause-meaning c = text_long c.args.text.now c.if-text-gt-MAX_TEXT.true
 
 pub loop-line-init : goal.loop-line-init
 loop-line-init c =
@@ -14,8 +14,8 @@ loop-line-init c =
     let begins = text_begins t.text.now t.roots.now t.heap.now (c.none_read-got.ensures t.roots.now t.heap.now) (omega arith) c.requires.0 c.requires.1 in
     (rw c.new-lines.ensures.1 begins, rw c.new-lines.ensures.0 refl, refl, refl)
 
-pub returns-in_err-got : goal.returns-in_err-got
-returns-in_err-got c =
+pub returns-in_err-got-clause-meaning : goal.returns-in_err-got-clause-meaning
+returns-in_err-got-clause-meaning c =
     let h = c.loop-line.invariant in
     let t = c.take in
     let f = c.in_err-got.ensures in
@@ -41,7 +41,7 @@ loop-line-preserved c =
     let goes = line_goes h.0 (rw h.1 at came.0) (rw h.1 at came.1) c.in_ok-got.ensures.ok_part t.new.roots t.new.heap t.ensures (omega (arith, t.auto.roots, h.0.root_room)) (omega (arith, t.auto.heap, h.0.word_room)) in
     (rw came.2 goes, rw c.in-Some.ensures.same_text h.1, t.auto.roots ∙ h.2, t.auto.heap ∙ h.3)
 
-pub returns : goal.returns
-returns c =
+pub returns-clause-meaning : goal.returns-clause-meaning
+returns-clause-meaning c =
     let h = c.loop-line.invariant in
-    c.finish.ensures c.loop-line.roots c.loop-line.heap ∙ text_ends h.0 (rw h.1 at c.in_default.ensures.moves)
+    c.finish.ensures.meaning c.loop-line.roots c.loop-line.heap ∙ text_ends h.0 (rw h.1 at c.in_default.ensures.moves)
