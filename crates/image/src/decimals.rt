@@ -15,7 +15,8 @@ fn is_plain(part: &[u8]) -> bool
     }
 }
 
-// The number of these digits, where all are digits and it is below 2 ^ 32.
+// The number of these digits, where all are digits and it is below 2 ^ 32. (It is converted at its end, since a conversion at each
+// digit was seen to take time.)
 fn digits(part: &[u8]) -> Option<u32>
     ensures { result ≡ digits_on 0 part.now }
 {

@@ -1,5 +1,5 @@
 -- `reading::read`: between two lines, those that are left decide what the text is.
-use Rattle.std.proofs.Common.{◌≡◌, ◌+◌, refl, ◌∙◌, arith}
+use Rattle.std.proofs.Common.{ℕ, ◌≡◌, ◌+◌, refl, ap, ◌∙◌, arith}
 use Rattle.std.proofs.lemmas.Result.{err_from_is_err_and}
 use Rattle.image.specs.declared.reading.WrongText.TheVariants.{Line}
 use Rattle.image.specs.ReadingLaws.{text_long, text_begins, text_ends, line_stops, next_inside, line_goes}
@@ -20,7 +20,8 @@ returns-in_err-got-clause-meaning c =
     let t = c.take in
     let f = c.in_err-got.ensures in
     let p = err_from_is_err_and c.from_residual.result c.from_residual.ensures.1 in
-    let late = rw (f.ok_part, c.next_wrong.ensures) at f.value in
+    let told : c.next_wrong.result ≡ Line (c.loop-line.got.lines + 1) = c.next_wrong.ensures ∙ ap (λ (n : ℕ). Line n) (omega arith) in
+    let late = rw (f.ok_part, told) at f.value in
     let number : c.in_err-got.field-0.0 ≡ Line (c.loop-line.got.lines + 1) = cc in
     let came = c.in-Some.ensures.moves in
     rw (p.1, p.2, number) (line_stops h.0 (rw h.1 at came.0) (rw h.1 at came.1) f.ok_part t.new.roots t.new.heap t.ensures)
