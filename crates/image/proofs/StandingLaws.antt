@@ -111,5 +111,5 @@ unfolding read_on lines_of
 text_missing {text} {roots} {heap} {b} g le few = sym (rw (drop_of_length-le text le, lt-leb 2 b.lines few)) ∙ g.rest
 
 -- Else the text is right.
-pub text_right : {text roots heap : List ℕ} {b : SoFar} {at : ℕ} → Between text roots heap b at → length text ≤ at → 2 ≤ b.lines → right (shows b roots heap) ≡ text_of text
-text_right {roots = roots} {heap = heap} {b = b} g le enough = ends_right (shows b roots heap) enough ∙ text_ends g le
+pub text_ends_right : {text roots heap : List ℕ} {b : SoFar} {at : ℕ} → Between text roots heap b at → length text ≤ at → 2 ≤ b.lines → right (shows b roots heap) ≡ text_of text
+text_ends_right {roots = roots} {heap = heap} {b = b} g le enough = ends_right (shows b roots heap) enough ∙ text_ends g le
